@@ -1,0 +1,9 @@
+pub mod Ring
+pub mod Normal
+pub mod Solve
+pub mod Reading
+pub mod Sums
+pub mod Residues
+pub mod Quartics
+pub mod Words
+pub mod Numbers

@@ -1,0 +1,60 @@
+-- The laws of words below a modulus: how the test goes over a list, and what it says of each word. Assumes nothing.
+use mathlib.Core.Path.{_≡_, refl, sym, ap, _∙_}
+use mathlib.Core.Bool.{Bool, true, false, _||_}
+use Prim.Native.Nat.{ℕ, zero, suc, _+_, _≤_, _<_}
+use native.Mathlib.Numerals.{add-one}
+use native.Mathlib.Omega.{arith}
+use mathlib.Core.List.{List, [], _∷_, _++_}
+use lib.Dec.{leb}
+use lib.ListN.{length, getD, drop}
+use lib.Seq.{drop-cons, drop-length}
+use borrow.Author.Tests.{leb-false, le-leb, lt-leb}
+use Rattle.algebra.specs.Residue.{Residue}
+use Rattle.algebra.specs.Quartic.{Quartic}
+use Rattle.algebra.specs.Words.{wordsOf, unreduced}
+
+or-left : (a b : Bool) → a || b ≡ false → a ≡ false
+or-left true b h = h
+or-left false b h = refl
+
+or-right : (a b : Bool) → a || b ≡ false → b ≡ false
+or-right true b h = absurd (let z : _≡_ {A = ℕ} 0 1 = cc in omega arith)
+or-right false b h = h
+
+module _ (m : ℕ) where
+  -- a loop over the words ws, at word i
+  module _ (ws : List ℕ) (i : ℕ) (h : i < length ws) where
+    pub found : m ≤ getD ws i 0 → unreduced m (drop i ws) ≡ true
+    unfolding unreduced
+    found q = rw (drop-cons ws i 0 h, le-leb m (getD ws i 0) q)
+
+    pub passed : getD ws i 0 < m → unreduced m (drop i ws) ≡ unreduced m (drop (i + 1) ws)
+    unfolding unreduced
+    passed q = rw (add-one, drop-cons ws i 0 h, lt-leb m (getD ws i 0) q)
+
+  pub ended : (ws : List ℕ) (i : ℕ) → i ≡ length ws → unreduced m (drop i ws) ≡ false
+  unfolding unreduced
+  ended ws i e = rw (e, drop-length ws)
+
+  -- where the test does not hold, each word is below m
+  pub below : (ws : List ℕ) → unreduced m ws ≡ false → 0 < m → (i : ℕ) → getD ws i 0 < m
+  unfolding unreduced
+  below [] h pos i = pos
+  below (w ∷ ws) h pos zero = leb-false m w (or-left (leb m w) (unreduced m ws) h)
+  below (w ∷ ws) h pos (suc i) = below ws (or-right (leb m w) (unreduced m ws) h) pos i
+
+  pub unreduced-cons : (w : ℕ) (ws : List ℕ) → w < m → unreduced m ws ≡ false → unreduced m (w ∷ ws) ≡ false
+  unfolding unreduced
+  unreduced-cons w ws h e = rw (lt-leb m w h, e)
+
+  pub unreduced-append : (xs ys : List ℕ) → unreduced m xs ≡ false → unreduced m ys ≡ false → unreduced m (xs ++ ys) ≡ false
+  unfolding unreduced
+  unreduced-append [] ys a b = b
+  unreduced-append (x ∷ xs) ys a b =
+      rw (or-left (leb m x) (unreduced m xs) a) (unreduced-append xs ys (or-right (leb m x) (unreduced m xs) a) b)
+
+-- the words of an element are below the modulus
+pub words-reduced : {m : ℕ} (x : Quartic (Residue m)) → unreduced m (wordsOf x) ≡ false
+unfolding wordsOf unreduced
+words-reduced {m} x =
+    rw (lt-leb m (x .x₀ .val) (x .x₀ .below), lt-leb m (x .x₁ .val) (x .x₁ .below), lt-leb m (x .x₂ .val) (x .x₂ .below), lt-leb m (x .x₃ .val) (x .x₃ .below))

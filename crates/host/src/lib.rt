@@ -1,0 +1,66 @@
+// The operations for a host program that compares and measures them: words in slices, and 0 or the refusal's number.
+mod elements;
+
+use elements::Operation;
+ghost use mathlib.Core.List.{List, [], _∷_};
+ghost use Rattle.host.specs.declared.elements.Operation.the-variants.{Add, Sub, Mul, Neg, Double, MulBase, FromBase, MulRepeat};
+ghost use Rattle.host.specs.Elements.{Applied};
+
+#[no_mangle]
+pub extern "C" fn host_add(x: &[u32], y: &[u32], out: &mut [u32]) -> u32
+    ensures { λ r. ⌜ Applied Add (now (x .entry)) (now (y .entry)) (now (out .entry)) (now (out .exit)) r ⌝ }
+{
+    elements::apply(Operation::Add, x, y, out)
+}
+
+#[no_mangle]
+pub extern "C" fn host_sub(x: &[u32], y: &[u32], out: &mut [u32]) -> u32
+    ensures { λ r. ⌜ Applied Sub (now (x .entry)) (now (y .entry)) (now (out .entry)) (now (out .exit)) r ⌝ }
+{
+    elements::apply(Operation::Sub, x, y, out)
+}
+
+#[no_mangle]
+pub extern "C" fn host_mul(x: &[u32], y: &[u32], out: &mut [u32]) -> u32
+    ensures { λ r. ⌜ Applied Mul (now (x .entry)) (now (y .entry)) (now (out .entry)) (now (out .exit)) r ⌝ }
+{
+    elements::apply(Operation::Mul, x, y, out)
+}
+
+#[no_mangle]
+pub extern "C" fn host_neg(x: &[u32], out: &mut [u32]) -> u32
+    ensures { λ r. ⌜ Applied Neg (now (x .entry)) (now (x .entry)) (now (out .entry)) (now (out .exit)) r ⌝ }
+{
+    elements::apply(Operation::Neg, x, x, out)
+}
+
+#[no_mangle]
+pub extern "C" fn host_double(x: &[u32], out: &mut [u32]) -> u32
+    ensures { λ r. ⌜ Applied Double (now (x .entry)) (now (x .entry)) (now (out .entry)) (now (out .exit)) r ⌝ }
+{
+    elements::apply(Operation::Double, x, x, out)
+}
+
+#[no_mangle]
+pub extern "C" fn host_mul_base(x: &[u32], word: u32, out: &mut [u32]) -> u32
+    ensures { λ r. ⌜ Applied MulBase (now (x .entry)) (word ∷ 0 ∷ 0 ∷ 0 ∷ []) (now (out .entry)) (now (out .exit)) r ⌝ }
+{
+    let y = [word, 0, 0, 0];
+    elements::apply(Operation::MulBase, x, &y, out)
+}
+
+#[no_mangle]
+pub extern "C" fn host_from_base(word: u32, out: &mut [u32]) -> u32
+    ensures { λ r. ⌜ Applied FromBase (word ∷ 0 ∷ 0 ∷ 0 ∷ []) (word ∷ 0 ∷ 0 ∷ 0 ∷ []) (now (out .entry)) (now (out .exit)) r ⌝ }
+{
+    let y = [word, 0, 0, 0];
+    elements::apply(Operation::FromBase, &y, &y, out)
+}
+
+// x y^times, product by product: a chain to measure.
+#[no_mangle]
+pub extern "C" fn host_mul_repeat(x: &[u32], y: &[u32], times: u64, out: &mut [u32]) -> u32
+    ensures { λ r. ⌜ Applied (MulRepeat times) (now (x .entry)) (now (y .entry)) (now (out .entry)) (now (out .exit)) r ⌝ }
+{
+    elements::apply(Operation::MulRepeat(times), x, y, out)
+}

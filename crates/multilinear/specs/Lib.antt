@@ -1,0 +1,4 @@
+pub mod Equality
+pub mod Successors
+pub mod Beside
+pub mod Laws

@@ -1,0 +1,4 @@
+pub mod Laws
+pub mod Tests
+pub mod Verdicts
+pub mod Outcomes

@@ -1,0 +1,7 @@
+// Document 01's worked examples, run through the code: a line for each, its name and the words that the code gives.
+mod elements;
+mod print;
+
+fn main() {
+    elements::run();
+}

@@ -1,0 +1,36 @@
+//! Compares the proved operations with the stand-ins and with the Rust crate.
+//!
+//!     compare [--long] [--seed N]
+
+mod elements;
+mod run;
+
+use std::time::{SystemTime, UNIX_EPOCH};
+use std::{env, process};
+
+fn main() {
+    let mut long = false;
+    let mut seed = SystemTime::now()
+        .duration_since(UNIX_EPOCH)
+        .map_or(1, |time| time.as_nanos() as u64);
+    let mut arguments = env::args().skip(1);
+    while let Some(argument) = arguments.next() {
+        match argument.as_str() {
+            "--long" => long = true,
+            "--seed" => match arguments.next().and_then(|number| number.parse().ok()) {
+                Some(number) => seed = number,
+                None => usage(),
+            },
+            _ => usage(),
+        }
+    }
+    println!("seed {seed}");
+    let mut run = run::Run::new(seed, long);
+    elements::compare(&mut run);
+    run.finish();
+}
+
+fn usage() -> ! {
+    eprintln!("usage: compare [--long] [--seed N]");
+    process::exit(2);
+}
