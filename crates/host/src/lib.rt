@@ -1,8 +1,14 @@
 // The operations for a host program that compares and measures them: words in slices, and 0 or the refusal's number.
+mod answers;
 mod elements;
 
 use elements::Operation;
+ghost use mathlib.Core.Path.{_≡_};
 ghost use mathlib.Core.List.{List, [], _∷_};
+ghost use Rattle.table.specs.Refusals.{answer};
+ghost use Rattle.point.specs.declared.equality.BitOrder.the-variants.{Msb, Lsb};
+ghost use Rattle.point.specs.Point.{vertexAnswer, tableAnswer, equalityOut, evalEqAnswer, evalNextAnswer, evalSelectAnswer};
+ghost use Rattle.host.specs.Answers.{GivenValue, GivenNext};
 ghost use Rattle.host.specs.declared.elements.Operation.the-variants.{Add, Sub, Mul, Neg, Double, MulBase, FromBase, MulRepeat};
 ghost use Rattle.host.specs.Elements.{Applied};
 
@@ -63,4 +69,48 @@ pub extern "C" fn host_mul_repeat(x: &[u32], y: &[u32], times: u64, out: &mut [u
     ensures { λ r. ⌜ Applied (MulRepeat times) (now (x .entry)) (now (y .entry)) (now (out .entry)) (now (out .exit)) r ⌝ }
 {
     elements::apply(Operation::MulRepeat(times), x, y, out)
+}
+
+#[no_mangle]
+pub extern "C" fn host_equality_at_vertex(point: &[u32], vertex: usize, out: &mut [u32]) -> u32
+    ensures { λ r. ⌜ GivenValue (vertexAnswer (now (point .entry)) vertex) (now (out .entry)) (now (out .exit)) r ⌝ }
+{
+    answers::give(point::equality::equality_at_vertex(point, vertex), out)
+}
+
+#[no_mangle]
+pub extern "C" fn host_equality_weights_msb(point: &[u32], out: &mut [u32]) -> u32
+    ensures { λ r. ⌜ r ≡ answer (tableAnswer (now (point .entry)) (now (out .entry))) ⌝ }
+    ensures { λ _. ⌜ now (out .exit) ≡ equalityOut Msb (now (point .entry)) (now (out .entry)) ⌝ }
+{
+    point::equality::equality_weights_msb(point, out).answer()
+}
+
+#[no_mangle]
+pub extern "C" fn host_equality_weights_lsb(point: &[u32], out: &mut [u32]) -> u32
+    ensures { λ r. ⌜ r ≡ answer (tableAnswer (now (point .entry)) (now (out .entry))) ⌝ }
+    ensures { λ _. ⌜ now (out .exit) ≡ equalityOut Lsb (now (point .entry)) (now (out .entry)) ⌝ }
+{
+    point::equality::equality_weights_lsb(point, out).answer()
+}
+
+#[no_mangle]
+pub extern "C" fn host_eval_eq(point: &[u32], row: &[u32], out: &mut [u32]) -> u32
+    ensures { λ r. ⌜ GivenValue (evalEqAnswer (now (point .entry)) (now (row .entry))) (now (out .entry)) (now (out .exit)) r ⌝ }
+{
+    answers::give(point::next::eval_eq(point, row), out)
+}
+
+#[no_mangle]
+pub extern "C" fn host_eval_next(point: &[u32], row: &[u32], out: &mut [u32]) -> u32
+    ensures { λ r. ⌜ GivenNext (evalNextAnswer (now (point .entry)) (now (row .entry))) (now (out .entry)) (now (out .exit)) r ⌝ }
+{
+    answers::give_next(point::next::eval_next(point, row), out)
+}
+
+#[no_mangle]
+pub extern "C" fn host_eval_select(point: &[u32], var: u32, out: &mut [u32]) -> u32
+    ensures { λ r. ⌜ GivenValue (evalSelectAnswer var (now (point .entry))) (now (out .entry)) (now (out .exit)) r ⌝ }
+{
+    answers::give(point::select::eval_select(var, point), out)
 }

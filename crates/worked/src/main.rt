@@ -1,7 +1,9 @@
 // Document 01's worked examples, run through the code: a line for each, its name and the words that the code gives.
 mod elements;
+mod points;
 mod print;
 
 fn main() {
     elements::run();
+    points::run();
 }

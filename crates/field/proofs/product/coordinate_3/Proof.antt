@@ -4,6 +4,19 @@ use Rattle.field.proofs.Laws.{word-below}
 use Rattle.field.proofs.product.coordinate_3.Statement.{statement}
 use Rattle.field.proofs.product.coordinate_3.Tie as tie
 
+returns : tie.Need-returns
+returns c =
+    let third = c .before .before .before .before in
+    let second = third .before .before .before in
+    let first = second .before .before .before in
+    rw (
+      c .residue .ensures,
+      c .before .wide4 .ensures .0,
+      third .wide3 .ensures .0,
+      second .wide2 .ensures .0,
+      first .wide .ensures .0,
+    )
+
 pub coordinate-3-spec : {M : Type 1} → statement M
 coordinate-3-spec =
     tie.close
@@ -24,4 +37,4 @@ coordinate-3-spec =
     (λ c κs. search (needs, word-below))
     (search needs)
     (search needs)
-    (λ c. cc))
+    returns)

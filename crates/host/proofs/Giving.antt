@@ -1,0 +1,71 @@
+-- Answers with elements: the outcomes, by the length of out. Assumes nothing.
+use mathlib.Core.Path.{_≡_, refl, sym, ap, _∙_}
+use mathlib.Core.Bool.{cond}
+use mathlib.Core.Logic.{_≢_}
+use Prim.Native.Nat.{ℕ, suc, _+_, _*_}
+use native.Mathlib.Omega.{arith}
+use mathlib.Core.List.{List, [], _∷_, _++_}
+use lib.Dec.{eqb}
+use lib.ListN.{length}
+use borrow.Author.Tests.{eq-eqb, ne-eqb}
+use Rattle.field.specs.declared.Element.{Element}
+use Rattle.field.specs.declared.Value.{Value}
+use Rattle.table.specs.Table.{putAt}
+use Rattle.table.specs.Refusals.{number}
+use Rattle.table.specs.declared.Refusal.the-variants.{Lengths}
+use Rattle.host.specs.Answers.{valueWords, wordsElement, Given}
+
+module _ (n given : ℕ) (new was : List ℕ) where
+  pub unfit : {r : ℕ} → length was ≢ n → r ≡ number Lengths → Given n given new was was r
+  unfit d e = record { answer-is = rw (ne-eqb (length was) n d) e; out-is = rw (ne-eqb (length was) n d) }
+
+  pub fit : {r : ℕ} {now : List ℕ} → length was ≡ n → r ≡ given → now ≡ new → Given n given new was now r
+  fit l e q = record { answer-is = rw (eq-eqb (length was) n l) e; out-is = rw (eq-eqb (length was) n l) q }
+
+put-cons : (a b c d : ℕ) (ws : List ℕ) (i : ℕ) (e : Element) → putAt (a ∷ b ∷ c ∷ d ∷ ws) (suc i) e ≡ a ∷ b ∷ c ∷ d ∷ putAt ws i e
+unfolding putAt
+put-cons a b c d ws i e =
+    let q0 : 4 * suc i ≡ suc (suc (suc (suc (4 * i)))) = omega arith in
+    let q1 : 4 * suc i + 1 ≡ suc (suc (suc (suc (4 * i + 1)))) = omega arith in
+    let q2 : 4 * suc i + 2 ≡ suc (suc (suc (suc (4 * i + 2)))) = omega arith in
+    let q3 : 4 * suc i + 3 ≡ suc (suc (suc (suc (4 * i + 3)))) = omega arith in
+    rw (q1, q2, q3, q0)
+
+-- the first element put, and then one further on
+first : (a b c d : ℕ) (ws : List ℕ) (u : Value) (i : ℕ) (v : Value)
+    → putAt (putAt (a ∷ b ∷ c ∷ d ∷ ws) 0 (wordsElement u)) (suc i) (wordsElement v) ≡ valueWords u ++ putAt ws i (wordsElement v)
+unfolding putAt
+first a b c d ws u i v = put-cons (u .c0) (u .c1) (u .c2) (u .c3) ws i (wordsElement v)
+
+-- elements put into words that have just their count
+pub put-one : (ws : List ℕ) (v : Value) → length ws ≡ 4 → putAt ws 0 (wordsElement v) ≡ valueWords v
+unfolding putAt
+put-one [] v l = absurd (omega arith)
+put-one (a ∷ []) v l = absurd (omega arith)
+put-one (a ∷ b ∷ []) v l = absurd (omega arith)
+put-one (a ∷ b ∷ c ∷ []) v l = absurd (omega arith)
+put-one (a ∷ b ∷ c ∷ d ∷ []) v l = refl
+put-one (a ∷ b ∷ c ∷ d ∷ f ∷ ws) v l = absurd (omega arith)
+
+put-two : (ws : List ℕ) (u v : Value) → length ws ≡ 8
+    → putAt (putAt ws 0 (wordsElement u)) 1 (wordsElement v) ≡ valueWords u ++ valueWords v
+put-two [] u v l = absurd (omega arith)
+put-two (a ∷ []) u v l = absurd (omega arith)
+put-two (a ∷ b ∷ []) u v l = absurd (omega arith)
+put-two (a ∷ b ∷ c ∷ []) u v l = absurd (omega arith)
+put-two (a ∷ b ∷ c ∷ d ∷ ws) u v l = first a b c d ws u 0 v ∙ ap (λ r. valueWords u ++ r) (put-one ws v (omega arith))
+
+put-three : (ws : List ℕ) (u v w : Value) → length ws ≡ 12
+    → putAt (putAt (putAt ws 0 (wordsElement u)) 1 (wordsElement v)) 2 (wordsElement w) ≡ valueWords u ++ valueWords v ++ valueWords w
+put-three [] u v w l = absurd (omega arith)
+put-three (a ∷ []) u v w l = absurd (omega arith)
+put-three (a ∷ b ∷ []) u v w l = absurd (omega arith)
+put-three (a ∷ b ∷ c ∷ []) u v w l = absurd (omega arith)
+put-three (a ∷ b ∷ c ∷ d ∷ ws) u v w l =
+    ap (λ r. putAt r 2 (wordsElement w)) (first a b c d ws u 0 v)
+    ∙ put-cons _ _ _ _ (putAt ws 0 (wordsElement v)) 1 (wordsElement w)
+    ∙ ap (λ r. valueWords u ++ r) (put-two ws v w (omega arith))
+
+pub three-put : (ws : List ℕ) (u v w : Value) {w₁ w₂ w₃ : List ℕ} → length ws ≡ 12 → w₁ ≡ putAt ws 0 (wordsElement u)
+    → w₂ ≡ putAt w₁ 1 (wordsElement v) → w₃ ≡ putAt w₂ 2 (wordsElement w) → w₃ ≡ valueWords u ++ valueWords v ++ valueWords w
+three-put ws u v w l e₁ e₂ e₃ = rw (e₃, e₂, e₁) (put-three ws u v w l)

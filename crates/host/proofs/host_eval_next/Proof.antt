@@ -1,0 +1,10 @@
+-- `host::host_eval_next` meets its contract. Assumes nothing.
+use borrow.Author.Needs.{needs}
+use Rattle.host.proofs.host_eval_next.Statement.{statement}
+use Rattle.host.proofs.host_eval_next.Tie as tie
+
+returns : tie.Need-returns
+returns c = rw (c .before .before .before .before .eval-next .ensures) at (c .before .before .give-next .ensures)
+
+pub host-eval-next-spec : {M : Type 1} → statement M
+host-eval-next-spec = tie.close (tie.spec (λ c κs. search needs) (λ c κs. search needs) (search needs) returns)

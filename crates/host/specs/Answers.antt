@@ -1,0 +1,49 @@
+-- Answers with elements, as the host library gives them: a number, and the elements' words in out. Assumes nothing.
+use mathlib.Core.Path.{_≡_}
+use Prim.Native.Nat.{ℕ}
+use mathlib.Core.Bool.{cond}
+use mathlib.Core.List.{List, [], _∷_, _++_}
+use lib.Dec.{eqb}
+use lib.ListN.{length}
+use Rattle.field.specs.declared.Element.{Element}
+use Rattle.field.specs.declared.Value.{Value}
+use Rattle.table.specs.Refusals.{number}
+use Rattle.table.specs.declared.Refusal.the-variants.{Lengths}
+use Rattle.table.specs.declared.Evaluation.{Evaluation}
+use Rattle.table.specs.declared.Evaluation.the-variants as evaluation
+use Rattle.point.specs.declared.next.Next.{Next}
+use Rattle.point.specs.declared.next.Next.the-variants as next
+
+abbrev pub valueWords : Value → List ℕ
+valueWords v = v .c0 ∷ v .c1 ∷ v .c2 ∷ v .c3 ∷ []
+
+abbrev pub wordsElement : Value → Element
+wordsElement v = record { c = valueWords v }
+
+-- of a call that gives n words: the answer and out, where out has as many; 4 and out as it was, before all else, where it has not
+pub record Given (n given : ℕ) (new was now : List ℕ) (r : ℕ) : Type 0 where
+  pub answer-is : r ≡ cond (eqb (length was) n) given (number Lengths)
+  pub out-is : now ≡ cond (eqb (length was) n) new was
+
+abbrev pub evaluationNumber : Evaluation → ℕ
+evaluationNumber (evaluation.Value v) = 0
+evaluationNumber (evaluation.Refused r) = number r
+
+abbrev pub evaluationOut : Evaluation → List ℕ → List ℕ
+evaluationOut (evaluation.Value v) was = valueWords v
+evaluationOut (evaluation.Refused r) was = was
+
+abbrev pub GivenValue : Evaluation → List ℕ → List ℕ → ℕ → Type 0
+GivenValue e was now r = Given 4 (evaluationNumber e) (evaluationOut e was) was now r
+
+-- carry, done and omega
+abbrev pub nextNumber : Next → ℕ
+nextNumber (next.Parts carry done omega) = 0
+nextNumber (next.Refused r) = number r
+
+abbrev pub nextOut : Next → List ℕ → List ℕ
+nextOut (next.Parts carry done omega) was = valueWords carry ++ valueWords done ++ valueWords omega
+nextOut (next.Refused r) was = was
+
+abbrev pub GivenNext : Next → List ℕ → List ℕ → ℕ → Type 0
+GivenNext e was now r = Given 12 (nextNumber e) (nextOut e was) was now r

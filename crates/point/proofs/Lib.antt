@@ -1,0 +1,9 @@
+mod Rest
+pub mod Coordinates
+mod Climbing
+mod Doubling
+mod Filling
+pub mod EqualityOutcomes
+mod Pairs
+mod PairOutcomes
+mod Selecting

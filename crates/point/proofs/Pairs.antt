@@ -1,0 +1,86 @@
+-- The loops of `agreements` and `next_parts`, from the last pair of coordinates back to coordinate 0. Assumes nothing.
+use mathlib.Core.Path.{_≡_}
+use Prim.Native.Nat.{ℕ, suc, _-_, _≤_, _<_}
+use native.Mathlib.Omega.{arith}
+use mathlib.Core.List.{List, [], _∷_}
+use Rattle.multilinear.specs.Equality.{agreement}
+use Rattle.multilinear.specs.Successors.{NextParts, evalNext, doneStep, carryStep, omegaStep}
+use Rattle.multilinear.specs.Beside.{evalEq}
+use Rattle.field.specs.Field.{Ext, field, fromWords, valueOf, Holds}
+use Rattle.field.specs.declared.Element.{Element}
+use Rattle.field.specs.declared.Value.{Value}
+use Rattle.field.proofs.Laws.{read-as}
+use Rattle.table.specs.Table.{elementAt, elements}
+use Rattle.table.specs.declared.Verdict.the-variants.{Accepted}
+use Rattle.point.specs.declared.next.Next.the-variants as next
+use Rattle.point.specs.Point.{nextParts}
+use Rattle.point.proofs.Rest.{rest, rest-none, rest-more, rest-all}
+
+-- at coordinate j of k: what the pairs from j on give
+module _ (ps rs : List ℕ) (k j : ℕ) where
+  pub record Agreed (product : Element) : Type 0 where
+    pub within : j ≤ k
+    pub product-is : Holds product (evalEq field (rest ps k j) (rest rs k j))
+
+  abbrev parts : NextParts Ext
+  parts = evalNext field (rest ps k j) (rest rs k j)
+
+  pub record Nexting (carry done last : Element) : Type 0 where
+    pub within : j ≤ k
+    pub carry-is : Holds carry (parts .carry)
+    pub done-is : Holds done (parts .done)
+    pub omega-is : Holds last (parts .omega)
+
+module _ (ps rs : List ℕ) (k : ℕ) where
+  pub agreed-start : {product : Element} → Holds product (field .one) → Agreed ps rs k k product
+  unfolding evalEq
+  agreed-start a = record { within = omega arith; product-is = rw (rest-none ps k) a }
+
+  pub next-start : {carry done last : Element} → Holds carry (field .one) → Holds done (field .zero) → Holds last (field .one)
+      → Nexting ps rs k k carry done last
+  unfolding evalNext
+  next-start a b c =
+      record {
+        within = omega arith;
+        carry-is = rw (rest-none ps k) a;
+        done-is = rw (rest-none ps k) b;
+        omega-is = rw (rest-none ps k) c;
+      }
+
+-- a turn, at the pair s, t before j
+module _ (ps rs : List ℕ) (k j : ℕ) (h : 0 < j) {s t : Element}
+    (e₁ : Holds s (elementAt ps (j - 1))) (e₂ : Holds t (elementAt rs (j - 1))) where
+  pub agreed-turn : {product agrees new : Element} → Agreed ps rs k j product → Holds agrees (agreement field (fromWords s) (fromWords t))
+      → Holds new (field .mul (fromWords agrees) (fromWords product)) → Agreed ps rs k (j - 1) new
+  unfolding evalEq
+  agreed-turn d e₃ e₄ =
+      record {
+        within = omega arith;
+        product-is = rw (rest-more ps k j (d .within) h, rest-more rs k j (d .within) h)
+            (rw (read-as _ e₃, read-as _ (d .product-is), read-as _ e₁, read-as _ e₂) at e₄);
+      }
+
+  pub next-turn : {carry done last carry₁ done₁ last₁ : Element} → Nexting ps rs k j carry done last
+      → Holds done₁ (doneStep field (fromWords s) (fromWords t) (fromWords done) (fromWords carry))
+      → Holds carry₁ (carryStep field (fromWords s) (fromWords t) (fromWords carry))
+      → Holds last₁ (omegaStep field (fromWords s) (fromWords t) (fromWords last)) → Nexting ps rs k (j - 1) carry₁ done₁ last₁
+  unfolding evalNext
+  next-turn d e₃ e₄ e₅ =
+      let p = rest-more ps k j (d .within) h in
+      let r = rest-more rs k j (d .within) h in
+      record {
+        within = omega arith;
+        carry-is = rw (p, r) (rw (read-as _ e₁, read-as _ e₂, read-as _ (d .carry-is)) at e₄);
+        done-is = rw (p, r) (rw (read-as _ e₁, read-as _ e₂, read-as _ (d .done-is), read-as _ (d .carry-is)) at e₃);
+        omega-is = rw (p, r) (rw (read-as _ e₁, read-as _ e₂, read-as _ (d .omega-is)) at e₅);
+      }
+
+module _ (ps rs : List ℕ) (k j : ℕ) (z : j ≡ 0) where
+  pub agreed-finish : {product : Element} → Agreed ps rs k j product → Holds product (evalEq field (elements ps 0 k) (elements rs 0 k))
+  agreed-finish d = rw (rest-all ps k j z, rest-all rs k j z) at (d .product-is)
+
+  pub next-finish : {carry done last : Element} → Nexting ps rs k j carry done last
+      → {a b c : Value} → a ≡ valueOf carry → b ≡ valueOf done → c ≡ valueOf last
+      → next.Parts a b c ≡ nextParts Accepted (evalNext field (elements ps 0 k) (elements rs 0 k))
+  next-finish d e₁ e₂ e₃ =
+      rw (e₁, e₂, e₃, d .carry-is .words, d .done-is .words, d .omega-is .words, rest-all ps k j z, rest-all rs k j z)

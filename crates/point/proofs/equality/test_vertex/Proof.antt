@@ -1,0 +1,36 @@
+-- `point::equality::test_vertex` meets its contract: the tests one by one. Assumes nothing.
+use borrow.Author.Needs.{needs}
+use Rattle.table.proofs.Verdicts.{gone-through}
+use Rattle.point.proofs.equality.test_vertex.Statement.{statement}
+use Rattle.point.proofs.equality.test_vertex.Tie as tie
+
+returns : tie.Need-returns
+returns c =
+    let reduced = c .before in
+    let few = reduced .before .before in
+    let whole = few .before .before in
+    gone-through _
+    (rw (
+      c .refuse-if4 .ensures,
+      reduced .refuse-if3 .ensures,
+      reduced .before .unreduced .ensures,
+      few .refuse-if2 .ensures,
+      few .before .too-many .ensures,
+      whole .refuse-if .ensures,
+      whole .before .splits .ensures,
+      whole .before .before .is-beyond .ensures,
+    ))
+
+pub test-vertex-spec : {M : Type 1} → statement M
+test-vertex-spec =
+    tie.close
+    (tie.spec
+    (search needs)
+    (search needs)
+    (search needs)
+    (search needs)
+    (search needs)
+    (search needs)
+    (search needs)
+    (search needs)
+    returns)

@@ -1,0 +1,131 @@
+// Two points: eq of the first extended to the second, and the first's successor tables at the second.
+use field::Element;
+use field::Value;
+use table::Evaluation;
+use table::Refusal;
+use table::Verdict;
+ghost use mathlib.Core.Path.{_≡_};
+ghost use Rattle.algebra.specs.Ring.{Ops};
+ghost use Rattle.multilinear.specs.Equality.{agreement};
+ghost use Rattle.multilinear.specs.Successors.{evalNext, doneStep, carryStep, omegaStep};
+ghost use Rattle.multilinear.specs.Beside.{evalEq};
+ghost use Rattle.field.specs.Field.{field, fromWords, Reduced, Holds};
+ghost use Rattle.table.specs.Table.{elements};
+ghost use Rattle.table.specs.Refusals.{verdict};
+ghost use Rattle.table.specs.declared.Verdict.the-variants.{Accepted};
+ghost use Rattle.point.specs.Point.{pairTests, evalEqAnswer, evalNextAnswer, nextParts};
+ghost use Rattle.point.specs.Inner.{Coordinates};
+
+pub enum Next {
+    Parts {
+        carry: Value,
+        done: Value,
+        omega: Value,
+    },
+    Refused(Refusal),
+}
+
+// The product of 2pq - p - q + 1 over the pairs of coordinates.
+pub fn eval_eq(point: &[u32], row: &[u32]) -> Evaluation
+    ensures { λ r. ⌜ r ≡ evalEqAnswer (now (point .entry)) (now (row .entry)) ⌝ }
+{
+    let tested = test_pair(point, row);
+    match tested {
+        Verdict::Refused(refusal) => Evaluation::Refused(refusal),
+        Verdict::Accepted => Evaluation::Value(agreements(point, row, point.len() / 4).value()),
+    }
+}
+
+// carry, done and omega of two points.
+pub fn eval_next(point: &[u32], row: &[u32]) -> Next
+    ensures { λ r. ⌜ r ≡ evalNextAnswer (now (point .entry)) (now (row .entry)) ⌝ }
+{
+    let tested = test_pair(point, row);
+    match tested {
+        Verdict::Refused(refusal) => Next::Refused(refusal),
+        Verdict::Accepted => next_parts(point, row, point.len() / 4),
+    }
+}
+
+fn test_pair(point: &[u32], row: &[u32]) -> Verdict
+    ensures { λ r. ⌜ r ≡ verdict (pairTests (now (point .entry)) (now (row .entry))) ⌝ }
+{
+    let split = table::either(table::splits(point), table::splits(row));
+    let many = table::either(table::too_many(point), table::too_many(row));
+    let unreduced = table::either(field::unreduced(point), field::unreduced(row));
+    Verdict::Accepted
+        .refuse_if(split, Refusal::Split)
+        .refuse_if(many, Refusal::TooMany)
+        .refuse_if(table::lengths_differ(point, row), Refusal::Lengths)
+        .refuse_if(unreduced, Refusal::Unreduced)
+}
+
+fn agreements(point: &[u32], row: &[u32], k: usize) -> Element
+    requires { ⌜ Coordinates k (now point) × Coordinates k (now row) ⌝ }
+    ensures { λ r. ⌜ Holds r (evalEq field (elements (now (point .entry)) 0 k) (elements (now (row .entry)) 0 k)) ⌝ }
+{
+    let mut product = Element::one();
+    let mut j = k;
+    while 0 < j {
+        j -= 1;
+        let s = table::read(point, j);
+        let t = table::read(row, j);
+        product = agree(s, t).mul(product);
+    }
+    product
+}
+
+// From the last pair, which goes with the lowest bit, back to coordinate 0.
+fn next_parts(point: &[u32], row: &[u32], k: usize) -> Next
+    requires { ⌜ Coordinates k (now point) × Coordinates k (now row) ⌝ }
+    ensures { λ r. ⌜ r ≡ nextParts Accepted (evalNext field (elements (now (point .entry)) 0 k) (elements (now (row .entry)) 0 k)) ⌝ }
+{
+    let mut carry = Element::one();
+    let mut done = Element::zero();
+    let mut omega = Element::one();
+    let mut j = k;
+    while 0 < j {
+        j -= 1;
+        let s = table::read(point, j);
+        let t = table::read(row, j);
+        done = done_step(s, t, done, carry);
+        carry = carry_step(s, t, carry);
+        omega = omega_step(s, t, omega);
+    }
+    Next::Parts {
+        carry: carry.value(),
+        done: done.value(),
+        omega: omega.value(),
+    }
+}
+
+// 2st - s - t + 1.
+fn agree(s: Element, t: Element) -> Element
+    requires { ⌜ Reduced s × Reduced t ⌝ }
+    ensures { λ r. ⌜ Holds r (agreement field (fromWords s) (fromWords t)) ⌝ }
+{
+    s.mul(t).double().sub(s).sub(t).add(Element::one())
+}
+
+fn done_step(s: Element, t: Element, done: Element, carry: Element) -> Element
+    requires { ⌜ (Reduced s × Reduced t) × (Reduced done × Reduced carry) ⌝ }
+    ensures { λ r. ⌜ Holds r (doneStep field (fromWords s) (fromWords t) (fromWords done) (fromWords carry)) ⌝ }
+{
+    let kept = agree(s, t).mul(done);
+    let settled = Element::one().sub(s).mul(t).mul(carry);
+    kept.add(settled)
+}
+
+fn carry_step(s: Element, t: Element, carry: Element) -> Element
+    requires { ⌜ (Reduced s × Reduced t) × Reduced carry ⌝ }
+    ensures { λ r. ⌜ Holds r (carryStep field (fromWords s) (fromWords t) (fromWords carry)) ⌝ }
+{
+    s.mul(Element::one().sub(t)).mul(carry)
+}
+
+fn omega_step(s: Element, t: Element, omega: Element) -> Element
+    requires { ⌜ (Reduced s × Reduced t) × Reduced omega ⌝ }
+    ensures { λ r. ⌜ Holds r (omegaStep field (fromWords s) (fromWords t) (fromWords omega)) ⌝ }
+{
+    s.mul(t).mul(omega)
+}
