@@ -6,8 +6,8 @@ use native.Mathlib.Numerals.{add-one}
 use native.Mathlib.Omega.{arith}
 use mathlib.Core.List.{List, [], _∷_, _++_}
 use lib.Dec.{leb}
-use lib.ListN.{length, getD, drop}
-use lib.Seq.{drop-cons, drop-length}
+use lib.ListN.{length, getD, drop, set, replicate}
+use lib.Seq.{drop-cons, drop-length, getD-drop}
 use borrow.Author.Tests.{leb-false, le-leb, lt-leb}
 use Rattle.algebra.specs.Residue.{Residue}
 use Rattle.algebra.specs.Quartic.{Quartic}
@@ -52,6 +52,29 @@ module _ (m : ℕ) where
   unreduced-append [] ys a b = b
   unreduced-append (x ∷ xs) ys a b =
       rw (or-left (leb m x) (unreduced m xs) a) (unreduced-append xs ys (or-right (leb m x) (unreduced m xs) a) b)
+
+  -- where each word is below m, the test does not hold
+  pub each-below : (ws : List ℕ) → ((i : ℕ) → getD ws i 0 < m) → unreduced m ws ≡ false
+  unfolding unreduced
+  each-below [] h = refl
+  each-below (w ∷ ws) h = unreduced-cons w ws (h 0) (each-below ws (λ i. h (suc i)))
+
+  module _ (pos : 0 < m) where
+    pub unreduced-drop : (n : ℕ) (ws : List ℕ) → unreduced m ws ≡ false → unreduced m (drop n ws) ≡ false
+    unreduced-drop n ws h = each-below (drop n ws) (λ i. rw (getD-drop n ws i 0) (below ws h pos (n + i)))
+
+    pub unreduced-set : (ws : List ℕ) (i v : ℕ) → v < m → unreduced m ws ≡ false → unreduced m (set ws i v) ≡ false
+    unfolding unreduced
+    unreduced-set [] i v b h = h
+    unreduced-set (w ∷ ws) zero v b h = unreduced-cons v ws b (each-below ws (λ i. below (w ∷ ws) h pos (suc i)))
+    unreduced-set (w ∷ ws) (suc i) v b h =
+        unreduced-cons w (set ws i v) (below (w ∷ ws) h pos 0)
+        (unreduced-set ws i v b (each-below ws (λ j. below (w ∷ ws) h pos (suc j))))
+
+    pub unreduced-zeros : (n : ℕ) → unreduced m (replicate n 0) ≡ false
+    unfolding unreduced
+    unreduced-zeros zero = refl
+    unreduced-zeros (suc n) = unreduced-cons 0 (replicate n 0) pos (unreduced-zeros n)
 
 -- the words of an element are below the modulus
 pub words-reduced : {m : ℕ} (x : Quartic (Residue m)) → unreduced m (wordsOf x) ≡ false

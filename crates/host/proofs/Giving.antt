@@ -15,12 +15,12 @@ use Rattle.table.specs.Refusals.{number}
 use Rattle.table.specs.declared.Refusal.the-variants.{Lengths}
 use Rattle.host.specs.Answers.{valueWords, wordsElement, Given}
 
-module _ (n given : ℕ) (new was : List ℕ) where
-  pub unfit : {r : ℕ} → length was ≢ n → r ≡ number Lengths → Given n given new was was r
-  unfit d e = record { answer-is = rw (ne-eqb (length was) n d) e; out-is = rw (ne-eqb (length was) n d) }
+module _ (n : ℕ) (tested : List ℕ) (given : ℕ) (new was : List ℕ) where
+  pub unfit : {r : ℕ} → length tested ≢ n → r ≡ number Lengths → Given n tested given new was was r
+  unfit d e = record { answer-is = rw (ne-eqb (length tested) n d) e; out-is = rw (ne-eqb (length tested) n d) }
 
-  pub fit : {r : ℕ} {now : List ℕ} → length was ≡ n → r ≡ given → now ≡ new → Given n given new was now r
-  fit l e q = record { answer-is = rw (eq-eqb (length was) n l) e; out-is = rw (eq-eqb (length was) n l) q }
+  pub fit : {r : ℕ} {now : List ℕ} → length tested ≡ n → r ≡ given → now ≡ new → Given n tested given new was now r
+  fit l e q = record { answer-is = rw (eq-eqb (length tested) n l) e; out-is = rw (eq-eqb (length tested) n l) q }
 
 put-cons : (a b c d : ℕ) (ws : List ℕ) (i : ℕ) (e : Element) → putAt (a ∷ b ∷ c ∷ d ∷ ws) (suc i) e ≡ a ∷ b ∷ c ∷ d ∷ putAt ws i e
 unfolding putAt

@@ -7,7 +7,8 @@ use lib.Dec.{eqb}
 use lib.ListN.{length}
 use Rattle.field.specs.declared.Element.{Element}
 use Rattle.field.specs.declared.Value.{Value}
-use Rattle.table.specs.Refusals.{number}
+use Rattle.table.specs.Refusals.{number, answer}
+use Rattle.table.specs.declared.Verdict.{Verdict}
 use Rattle.table.specs.declared.Refusal.the-variants.{Lengths}
 use Rattle.table.specs.declared.Evaluation.{Evaluation}
 use Rattle.table.specs.declared.Evaluation.the-variants as evaluation
@@ -20,10 +21,10 @@ valueWords v = v .c0 ∷ v .c1 ∷ v .c2 ∷ v .c3 ∷ []
 abbrev pub wordsElement : Value → Element
 wordsElement v = record { c = valueWords v }
 
--- of a call that gives n words: the answer and out, where out has as many; 4 and out as it was, before all else, where it has not
-pub record Given (n given : ℕ) (new was now : List ℕ) (r : ℕ) : Type 0 where
-  pub answer-is : r ≡ cond (eqb (length was) n) given (number Lengths)
-  pub out-is : now ≡ cond (eqb (length was) n) new was
+-- a call that is made where some words are n: its answer and what it leaves; 4 and out as it was, before all else, where they are not
+pub record Given (n : ℕ) (tested : List ℕ) (given : ℕ) (new was now : List ℕ) (r : ℕ) : Type 0 where
+  pub answer-is : r ≡ cond (eqb (length tested) n) given (number Lengths)
+  pub out-is : now ≡ cond (eqb (length tested) n) new was
 
 abbrev pub evaluationNumber : Evaluation → ℕ
 evaluationNumber (evaluation.Value v) = 0
@@ -34,7 +35,7 @@ evaluationOut (evaluation.Value v) was = valueWords v
 evaluationOut (evaluation.Refused r) was = was
 
 abbrev pub GivenValue : Evaluation → List ℕ → List ℕ → ℕ → Type 0
-GivenValue e was now r = Given 4 (evaluationNumber e) (evaluationOut e was) was now r
+GivenValue e was now r = Given 4 was (evaluationNumber e) (evaluationOut e was) was now r
 
 -- carry, done and omega
 abbrev pub nextNumber : Next → ℕ
@@ -46,4 +47,8 @@ nextOut (next.Parts carry done omega) was = valueWords carry ++ valueWords done 
 nextOut (next.Refused r) was = was
 
 abbrev pub GivenNext : Next → List ℕ → List ℕ → ℕ → Type 0
-GivenNext e was now r = Given 12 (nextNumber e) (nextOut e was) was now r
+GivenNext e was now r = Given 12 was (nextNumber e) (nextOut e was) was now r
+
+-- a call with a scale of four words
+abbrev pub GivenScaled : List ℕ → Verdict → List ℕ → List ℕ → List ℕ → ℕ → Type 0
+GivenScaled scale v new was now r = Given 4 scale (answer v) new was now r

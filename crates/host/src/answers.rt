@@ -46,7 +46,7 @@ pub fn give_next(e: Next, out: &mut [u32]) -> u32
     }
 }
 
-fn number(refusal: Refusal) -> u32
+pub fn number(refusal: Refusal) -> u32
     ensures { λ r. ⌜ r ≡ number refusal ⌝ }
 {
     Verdict::Refused(refusal).answer()

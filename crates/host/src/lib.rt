@@ -3,12 +3,17 @@ mod answers;
 mod elements;
 
 use elements::Operation;
+use table::Refusal;
 ghost use mathlib.Core.Path.{_≡_};
+ghost use mathlib.Core.Bool.{true, false};
 ghost use mathlib.Core.List.{List, [], _∷_};
 ghost use Rattle.table.specs.Refusals.{answer};
 ghost use Rattle.point.specs.declared.equality.BitOrder.the-variants.{Msb, Lsb};
 ghost use Rattle.point.specs.Point.{vertexAnswer, tableAnswer, equalityOut, evalEqAnswer, evalNextAnswer, evalSelectAnswer};
-ghost use Rattle.host.specs.Answers.{GivenValue, GivenNext};
+ghost use Rattle.table.specs.Table.{getAt};
+ghost use Rattle.poly.specs.Poly.{newAnswer, newOut, nextOut};
+ghost use Rattle.eq_batch.specs.Batch.{batchAnswer, setOut, addOut};
+ghost use Rattle.host.specs.Answers.{GivenValue, GivenNext, GivenScaled};
 ghost use Rattle.host.specs.declared.elements.Operation.the-variants.{Add, Sub, Mul, Neg, Double, MulBase, FromBase, MulRepeat};
 ghost use Rattle.host.specs.Elements.{Applied};
 
@@ -113,4 +118,48 @@ pub extern "C" fn host_eval_select(point: &[u32], var: u32, out: &mut [u32]) -> 
     ensures { λ r. ⌜ GivenValue (evalSelectAnswer var (now (point .entry))) (now (out .entry)) (now (out .exit)) r ⌝ }
 {
     answers::give(point::select::eval_select(var, point), out)
+}
+
+#[no_mangle]
+pub extern "C" fn host_new_from_point(point: &[u32], scale: &[u32], out: &mut [u32]) -> u32
+    ensures { λ r. ⌜ GivenScaled (now (scale .entry)) (newAnswer (now (point .entry)) (getAt (now (scale .entry)) 0) (now (out .entry))) (newOut (now (point .entry)) (getAt (now (scale .entry)) 0) (now (out .entry))) (now (out .entry)) (now (out .exit)) r ⌝ }
+{
+    if scale.len() != 4 {
+        return answers::number(Refusal::Lengths);
+    }
+    poly::new_from_point(point, table::get(scale, 0), out).answer()
+}
+
+#[no_mangle]
+pub extern "C" fn host_new_next_from_point(point: &[u32], out: &mut [u32]) -> u32
+    ensures { λ r. ⌜ r ≡ answer (tableAnswer (now (point .entry)) (now (out .entry))) ⌝ }
+    ensures { λ _. ⌜ now (out .exit) ≡ nextOut (now (point .entry)) (now (out .entry)) ⌝ }
+{
+    poly::new_next_from_point(point, out).answer()
+}
+
+#[no_mangle]
+pub extern "C" fn host_eval_eq_batch(
+    points: &[u32],
+    scalars: &[u32],
+    n: usize,
+    out: &mut [u32],
+) -> u32
+    ensures { λ r. ⌜ r ≡ answer (batchAnswer false n (now (points .entry)) (now (scalars .entry)) (now (out .entry))) ⌝ }
+    ensures { λ _. ⌜ now (out .exit) ≡ setOut n (now (points .entry)) (now (scalars .entry)) (now (out .entry)) ⌝ }
+{
+    eq_batch::eval_eq_batch(n, points, scalars, out).answer()
+}
+
+#[no_mangle]
+pub extern "C" fn host_eval_eq_batch_add(
+    points: &[u32],
+    scalars: &[u32],
+    n: usize,
+    out: &mut [u32],
+) -> u32
+    ensures { λ r. ⌜ r ≡ answer (batchAnswer true n (now (points .entry)) (now (scalars .entry)) (now (out .entry))) ⌝ }
+    ensures { λ _. ⌜ now (out .exit) ≡ addOut n (now (points .entry)) (now (scalars .entry)) (now (out .entry)) ⌝ }
+{
+    eq_batch::eval_eq_batch_add(n, points, scalars, out).answer()
 }

@@ -12,6 +12,7 @@ use Rattle.table.specs.Refusals.{leaves}
 use Rattle.table.specs.declared.Verdict.{Verdict}
 use Rattle.table.specs.declared.Verdict.the-variants.{Accepted}
 use Rattle.table.proofs.Laws.{table-ext}
+use Rattle.table.proofs.Outcomes.{both}
 use Rattle.point.specs.declared.equality.BitOrder.{BitOrder}
 use Rattle.point.specs.Point.{tableAnswer, equalityOut, eqBy}
 
@@ -25,7 +26,7 @@ pub answered : (order : BitOrder) (ps out : List ℕ) {v : Verdict} {w : List �
     → w ≡ leaves v (tableWords (2 ^ entries ps) (eqBy order (pointOf ps))) out
     → (v ≡ tableAnswer ps out) × (w ≡ equalityOut order ps out)
 unfolding equalityOut
-answered order ps out e l = (e, l ∙ ap (λ u. leaves u (tableWords (2 ^ entries ps) (eqBy order (pointOf ps))) out) e)
+answered order ps out = both (tableWords (2 ^ entries ps) (eqBy order (pointOf ps))) out
 
 pub filled : (order : BitOrder) (ps out : List ℕ) (one : Element) {w : List ℕ} → Accepted ≡ tableAnswer ps out → Holds one (field .one)
     → w ≡ tableWords (2 ^ entries ps) (λ y. field .mul (fromWords one) (eqBy order (pointOf ps) y))

@@ -1,4 +1,5 @@
 pub mod Laws
+pub mod Parts
 pub mod Tests
 pub mod Verdicts
 pub mod Outcomes

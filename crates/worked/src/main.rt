@@ -2,8 +2,10 @@
 mod elements;
 mod points;
 mod print;
+mod replay;
 
 fn main() {
     elements::run();
     points::run();
+    replay::run();
 }

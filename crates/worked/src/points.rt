@@ -15,7 +15,9 @@ fn room() -> [u32; 16] {
 pub fn run() {
     vertices();
     tables();
+    empty();
     pairs();
+    batch();
     limits();
 }
 
@@ -35,6 +37,31 @@ fn tables() {
     print::table(answer, &out);
     print::text(b"eq of z, lowest bit first:");
     let answer = point::equality::equality_weights_lsb(&z, &mut out);
+    print::table(answer, &out);
+    print::text(b"next table of z:");
+    let answer = poly::new_next_from_point(&z, &mut out);
+    print::table(answer, &out);
+}
+
+// The empty point, with scale 5.
+fn empty() {
+    let none = [0u32; 0];
+    let mut out = [7u32; 4];
+    print::text(b"eq of the empty point, scale 5:");
+    let answer = poly::new_from_point(&none, Element { c: [5, 0, 0, 0] }, &mut out);
+    print::table(answer, &out);
+    print::text(b"its next table:");
+    let answer = poly::new_next_from_point(&none, &mut out);
+    print::table(answer, &out);
+}
+
+// z and (0, 1) with scalars 1 and 10: a row for each variable, a column for each point.
+fn batch() {
+    let points = [2, 0, 0, 0, 0, 0, 0, 0, 3, 0, 0, 0, 1, 0, 0, 0];
+    let scalars = [1, 0, 0, 0, 10, 0, 0, 0];
+    let mut out = room();
+    print::text(b"batch of z and (0, 1) with 1 and 10:");
+    let answer = eq_batch::eval_eq_batch(2, &points, &scalars, &mut out);
     print::table(answer, &out);
 }
 

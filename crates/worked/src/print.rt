@@ -19,6 +19,11 @@ pub fn word(word: u32) {
     io::print_decimal(STDOUT_FILENO, wide(word));
 }
 
+pub fn count(n: u64) {
+    text(b" ");
+    io::print_decimal(STDOUT_FILENO, n);
+}
+
 // A number alone where the other coordinates are 0.
 pub fn value(v: Value) {
     word(v.c0);

@@ -11,18 +11,18 @@ same : (s : tie.Else1) → length (s .before .before .args .out .now) ≡ 4
 same s = omega (arith, s .if1 .left)
 
 returns : tie.Need-returns
-returns c = unfit _ _ _ _ (c .before .if1 .taken) (c .number .ensures)
+returns c = unfit _ _ _ _ _ (c .before .if1 .taken) (c .number .ensures)
 
 returns-2 : tie.Need-returns-2
 returns-2 c =
     let told = c .before .before in
-    rw (told .e .given .1) (fit _ _ _ _ (same (told .before .before)) (c .number2 .ensures) refl)
+    rw (told .e .given .1) (fit _ _ _ _ _ (same (told .before .before)) (c .number2 .ensures) refl)
 
 returns-3 : tie.Need-returns-3
 returns-3 c =
     let told = c .before .before .before .before .before in
     let l = same (told .before .before) in
-    rw (told .e2 .given .1) (fit _ _ _ _ l refl (c .before .before .put .ensures ∙ put-one _ _ l))
+    rw (told .e2 .given .1) (fit _ _ _ _ _ l refl (c .before .before .put .ensures ∙ put-one _ _ l))
 
 pub give-spec : {M : Type 1} → statement M
 give-spec = tie.close (tie.spec

@@ -11,12 +11,12 @@ same : (s : tie.Else1) → length (s .before .before .args .out .now) ≡ 12
 same s = omega (arith, s .if1 .left)
 
 returns : tie.Need-returns
-returns c = unfit _ _ _ _ (c .before .if1 .taken) (c .number .ensures)
+returns c = unfit _ _ _ _ _ (c .before .if1 .taken) (c .number .ensures)
 
 returns-2 : tie.Need-returns-2
 returns-2 c =
     let told = c .before .before in
-    rw (told .e .given .1) (fit _ _ _ _ (same (told .before .before)) (c .number2 .ensures) refl)
+    rw (told .e .given .1) (fit _ _ _ _ _ (same (told .before .before)) (c .number2 .ensures) refl)
 
 returns-3 : tie.Need-returns-3
 returns-3 c =
@@ -25,7 +25,7 @@ returns-3 c =
     let told = first .before .before .before .before .before in
     let l = same (told .before .before) in
     rw (told .e2 .given .1)
-    (fit _ _ _ _ l refl
+    (fit _ _ _ _ _ l refl
     (three-put _ _ _ _ l (first .before .before .put .ensures) (second .before .before .put2 .ensures) (c .before .before .put3 .ensures)))
 
 pub give-next-spec : {M : Type 1} → statement M

@@ -1,0 +1,49 @@
+-- What the inner functions take and give. No exported operation's contract cites it. Assumes nothing.
+use mathlib.Core.Path.{_≡_}
+use mathlib.Core.Bool.{false}
+use Prim.Native.Nat.{ℕ, _+_, _*_, _^_, _≤_, _<_}
+use mathlib.Core.List.{List}
+use lib.ListN.{length}
+use Rattle.algebra.specs.Ring.{Ops}
+use Rattle.algebra.specs.Words.{unreduced}
+use Rattle.field.specs.Field.{p, Ext, field, toWords, Reduced}
+use Rattle.field.specs.declared.Element.{Element}
+use Rattle.table.specs.Table.{getAt, elementAt, elements}
+use Rattle.table.specs.Refusals.{most}
+use Rattle.point.specs.Inner.{Coordinates}
+use Rattle.eq_batch.specs.Batch.{mostPoints, column}
+
+-- the elements of out from place `from` on gain g 0, .. g (n - 1), and the others are as they were
+pub record Gained (from n : ℕ) (g : ℕ → Ext) (ws w : List ℕ) : Type 0 where
+  pub len : length w ≡ length ws
+  pub gained : (y : ℕ) → y < n → getAt w (from + y) ≡ toWords (field .add (elementAt ws (from + y)) (g y))
+  pub below : (y : ℕ) → y < from → getAt w y ≡ getAt ws y
+  pub above : (y : ℕ) → from + n ≤ y → getAt w y ≡ getAt ws y
+
+-- n elements from place `from` on stand in out, each reduced
+pub record Room (from n : ℕ) (ws : List ℕ) : Type 0 where
+  pub fits : 4 * (from + n) ≤ length ws
+  pub reduced : (y : ℕ) → y < n → Reduced (getAt ws (from + y))
+
+-- n rows of w coordinates and w scalars
+pub record Points (n w : ℕ) (points scalars : List ℕ) : Type 0 where
+  pub few : n ≤ most
+  pub few-points : w ≤ mostPoints
+  pub rows : 4 * (n * w) ≤ length points
+  pub scales : 4 * w ≤ length scalars
+  pub points-below : unreduced p points ≡ false
+  pub scalars-below : unreduced p scalars ≡ false
+
+-- column j stands in n rows of w coordinates
+pub record Column (n w j : ℕ) (points : List ℕ) : Type 0 where
+  pub few : n ≤ most
+  pub few-points : w ≤ mostPoints
+  pub within : j < w
+  pub rows : 4 * (n * w) ≤ length points
+  pub below : unreduced p points ≡ false
+
+-- r has column j as its first n elements
+pub record Gathered (n w j : ℕ) (points r : List ℕ) : Type 0 where
+  pub size : length r ≡ 80
+  pub below : unreduced p r ≡ false
+  pub point-is : elements r 0 n ≡ column points n w j

@@ -1,0 +1,202 @@
+// Sums of equality tables: n rows of w coordinates, column j a point, and a scalar for each.
+//
+//     out[y] = sum_j scalar_j eq(point_j)[y]
+//
+// A point's table is made in blocks of at most 2^8 rows, in an array of the function's own (4 KiB), and added to out block by block:
+// 2^n products a point, and some 20 more a block.
+use field::Element;
+use point::equality::BitOrder;
+use table::Refusal;
+use table::Verdict;
+ghost use mathlib.Core.Path.{_≡_};
+ghost use mathlib.Core.Bool.{true, false, not, _&&_};
+ghost use Prim.Native.Nat.{_+_, _*_, _^_, _≤_};
+ghost use lib.Dec.{eqb};
+ghost use lib.ListN.{length, replicate};
+ghost use Rattle.algebra.specs.Ring.{Ops};
+ghost use Rattle.multilinear.specs.Equality.{eqAt};
+ghost use Rattle.multilinear.specs.Beside.{evalBatch};
+ghost use Rattle.field.specs.Field.{field, fromWords, Reduced};
+ghost use Rattle.table.specs.Table.{elementAt, elements};
+ghost use Rattle.table.specs.Refusals.{verdict};
+ghost use Rattle.point.specs.Inner.{Coordinates};
+ghost use Rattle.eq_batch.specs.Batch.{column, batchTests, batchAnswer, setOut, addOut};
+ghost use Rattle.eq_batch.specs.Inner.{Gained, Room, Points, Column, Gathered};
+
+// The most points of a batch.
+pub const MOST_POINTS: usize = 64;
+
+// The variables of a block.
+const BLOCK: usize = 8;
+
+// out becomes the sum.
+pub fn eval_eq_batch(n: usize, points: &[u32], scalars: &[u32], out: &mut [u32]) -> Verdict
+    ensures { λ r. ⌜ r ≡ batchAnswer false n (now (points .entry)) (now (scalars .entry)) (now (out .entry)) ⌝ }
+    ensures { λ _. ⌜ now (out .exit) ≡ setOut n (now (points .entry)) (now (scalars .entry)) (now (out .entry)) ⌝ }
+{
+    if scalars.len() == 0 {
+        return Verdict::Accepted;
+    }
+    let tested = test_batch(false, n, points, scalars, out);
+    match tested {
+        Verdict::Refused(refusal) => Verdict::Refused(refusal),
+        Verdict::Accepted => {
+            clear(out);
+            add_points(n, points, scalars, scalars.len() / 4, out);
+            Verdict::Accepted
+        }
+    }
+}
+
+// out gains the sum.
+pub fn eval_eq_batch_add(n: usize, points: &[u32], scalars: &[u32], out: &mut [u32]) -> Verdict
+    ensures { λ r. ⌜ r ≡ batchAnswer true n (now (points .entry)) (now (scalars .entry)) (now (out .entry)) ⌝ }
+    ensures { λ _. ⌜ now (out .exit) ≡ addOut n (now (points .entry)) (now (scalars .entry)) (now (out .entry)) ⌝ }
+{
+    if scalars.len() == 0 {
+        return Verdict::Accepted;
+    }
+    let tested = test_batch(true, n, points, scalars, out);
+    match tested {
+        Verdict::Refused(refusal) => Verdict::Refused(refusal),
+        Verdict::Accepted => {
+            add_points(n, points, scalars, scalars.len() / 4, out);
+            Verdict::Accepted
+        }
+    }
+}
+
+fn test_batch(adding: bool, n: usize, points: &[u32], scalars: &[u32], out: &[u32]) -> Verdict
+    ensures { λ r. ⌜ r ≡ verdict (batchTests adding n (now (points .entry)) (now (scalars .entry)) (now (out .entry))) ⌝ }
+{
+    let w = scalars.len() / 4;
+    let operands = table::either(table::splits(points), table::splits(scalars));
+    let split = table::either(operands, table::splits(out));
+    let many = table::either(table::MOST < n, MOST_POINTS < w);
+    let lengths = table::either(
+        is_no_product(points.len() / 4, n, w),
+        table::rows_differ(out, n),
+    );
+    let operands_unreduced = table::either(field::unreduced(points), field::unreduced(scalars));
+    let unreduced = table::either(operands_unreduced, both(adding, field::unreduced(out)));
+    Verdict::Accepted
+        .refuse_if(split, Refusal::Split)
+        .refuse_if(many, Refusal::TooMany)
+        .refuse_if(lengths, Refusal::Lengths)
+        .refuse_if(unreduced, Refusal::Unreduced)
+}
+
+// count is not n w. The product is not formed: it may not fit.
+fn is_no_product(count: usize, n: usize, w: usize) -> bool
+    ensures { λ r. ⌜ r ≡ not (eqb count (n * w)) ⌝ }
+{
+    if w == 0 {
+        return count != 0;
+    }
+    if count % w != 0 {
+        return true;
+    }
+    count / w != n
+}
+
+fn both(a: bool, b: bool) -> bool
+    ensures { λ r. ⌜ r ≡ a && b ⌝ }
+{
+    if a { b } else { false }
+}
+
+// Every element of out becomes zero.
+fn clear(out: &mut [u32])
+    ensures { λ _. ⌜ now (out .exit) ≡ replicate (length (now (out .entry))) 0 ⌝ }
+{
+    for i in 0..out.len() {
+        out[i] = 0;
+    }
+}
+
+// out gains the sum over the w points.
+fn add_points(n: usize, points: &[u32], scalars: &[u32], w: usize, out: &mut [u32])
+    requires { ⌜ Points n w (now points) (now scalars) × Room 0 (2 ^ n) (now out) ⌝ }
+    ensures { λ _. ⌜ Gained 0 (2 ^ n) (evalBatch field w (elementAt (now (scalars .entry))) (column (now (points .entry)) n w)) (now (out .entry)) (now (out .exit)) ⌝ }
+{
+    for j in 0..w {
+        let point = gather(points, n, w, j);
+        add_point(&point, n, table::read(scalars, j), out);
+    }
+}
+
+// Column j of n rows, as the coordinates of a point.
+fn gather(points: &[u32], n: usize, w: usize, j: usize) -> [u32; 80]
+    requires { ⌜ Column n w j (now points) ⌝ }
+    ensures { λ r. ⌜ Gathered n w j (now (points .entry)) r ⌝ }
+{
+    let mut point = room();
+    for i in 0..n {
+        table::put(&mut point, i, table::read(points, i * w + j));
+    }
+    point
+}
+
+// Room for 20 coordinates.
+fn room() -> [u32; 80]
+    ensures { λ r. ⌜ r ≡ replicate 80 0 ⌝ }
+{
+    [0u32; 80]
+}
+
+// out gains scale eq of the point of n coordinates, block by block: a block for each row of the first coordinates.
+fn add_point(point: &[u32], n: usize, scale: Element, out: &mut [u32])
+    requires { ⌜ (Coordinates n (now point) × Reduced scale) × Room 0 (2 ^ n) (now out) ⌝ }
+    ensures { λ _. ⌜ Gained 0 (2 ^ n) (λ y. field .mul (fromWords scale) (eqAt field (elements (now (point .entry)) 0 n) y)) (now (out .entry)) (now (out .exit)) ⌝ }
+{
+    let low = smaller(n, BLOCK);
+    let high = n - low;
+    let rows = table::rows(low);
+    for h in 0..table::rows(high) {
+        let seed = scale.mul(point::equality::at_row(point, high, h));
+        add_block(point, high, low, seed, h * rows, out);
+    }
+}
+
+fn smaller(a: usize, b: usize) -> usize
+    ensures { λ r. ⌜ (r ≤ a) × (r ≤ b) ⌝ }
+{
+    if a < b { a } else { b }
+}
+
+// out gains, from place `from` on, seed eq of the low coordinates that follow the high ones.
+fn add_block(point: &[u32], high: usize, low: usize, seed: Element, from: usize, out: &mut [u32])
+    requires { ⌜ (Coordinates (high + low) (now point) × Reduced seed) × ((low ≤ 8) × Room from (2 ^ low) (now out)) ⌝ }
+    ensures { λ _. ⌜ Gained from (2 ^ low) (λ y. field .mul (fromWords seed) (eqAt field (elements (now (point .entry)) high low) y)) (now (out .entry)) (now (out .exit)) ⌝ }
+{
+    let rows = table::rows(low);
+    let words = 4 * rows;
+    let skipped = 4 * high;
+    let mut block = block_room();
+    point::equality::fill(
+        &mut block[..words],
+        &point[skipped..],
+        low,
+        BitOrder::Msb,
+        seed,
+    );
+    add_table(&block, rows, from, out);
+}
+
+// Room for a block.
+fn block_room() -> [u32; 1024]
+    ensures { λ r. ⌜ length r ≡ 1024 ⌝ }
+{
+    [0u32; 1024]
+}
+
+// out gains the first n elements of summands, from place `from` on.
+fn add_table(summands: &[u32], n: usize, from: usize, out: &mut [u32])
+    requires { ⌜ Room 0 n (now summands) × Room from n (now out) ⌝ }
+    ensures { λ _. ⌜ Gained from n (elementAt (now (summands .entry))) (now (out .entry)) (now (out .exit)) ⌝ }
+{
+    for i in 0..n {
+        let sum = table::get(out, from + i).add(table::get(summands, i));
+        table::put(out, from + i, sum);
+    }
+}

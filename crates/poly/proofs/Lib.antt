@@ -1,0 +1,4 @@
+mod Shifting
+mod Succeeding
+mod Outcomes
+mod Next

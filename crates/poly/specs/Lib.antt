@@ -1,0 +1,2 @@
+pub mod Poly
+pub mod Inner
