@@ -33,7 +33,8 @@ module _ {ℓ} {R : Type ℓ} {O : Ops R} (𝓡 : CommRing O) (w : R) where
   read a b c e = record { x₀ = den 𝓡 (e .x₀) (env a b c); x₁ = den 𝓡 (e .x₁) (env a b c); x₂ = den 𝓡 (e .x₂) (env a b c); x₃ = den 𝓡 (e .x₃) (env a b c) }
 
   -- four equations at once
-  four : (a b c : Quartic R) (d e : Quartic Expr) → T (agree (d .x₀) (e .x₀)) → T (agree (d .x₁) (e .x₁)) → T (agree (d .x₂) (e .x₂)) → T (agree (d .x₃) (e .x₃)) → read a b c d ≡ read a b c e
+  four : (a b c : Quartic R) (d e : Quartic Expr) → T (agree (d .x₀) (e .x₀)) → T (agree (d .x₁) (e .x₁)) → T (agree (d .x₂) (e .x₂))
+      → T (agree (d .x₃) (e .x₃)) → read a b c d ≡ read a b c e
   four a b c d e p q r s = quartic-path (solve 𝓡 (env a b c) (d .x₀) (e .x₀) p) (solve 𝓡 (env a b c) (d .x₁) (e .x₁) q) (solve 𝓡 (env a b c) (d .x₂) (e .x₂) r) (solve 𝓡 (env a b c) (d .x₃) (e .x₃) s)
 
   pub quartic-ring : CommRing (quartic O w)

@@ -67,7 +67,9 @@ module _ {ℓ} {R : Type ℓ} {O : Ops R} (𝓡 : CommRing O) where
 
   co-add : (p n q r : ℕ) → co (p + q) (n + r) ≡ co p n ⊕ co q r
   unfolding co
-  co-add p n q r = ap₂ (λ x y. x ⊕ ⊖ y) (nat-add p q) (nat-add n r) ∙ ap (λ x. nat p ⊕ nat q ⊕ x) (Ring.neg-add 𝓡 (nat n) (nat r)) ∙ Ring.swap4 𝓡 (nat p) (nat q) (⊖ (nat n)) (⊖ (nat r))
+  co-add p n q r =
+      ap₂ (λ x y. x ⊕ ⊖ y) (nat-add p q) (nat-add n r) ∙ ap (λ x. nat p ⊕ nat q ⊕ x) (Ring.neg-add 𝓡 (nat n) (nat r))
+      ∙ Ring.swap4 𝓡 (nat p) (nat q) (⊖ (nat n)) (⊖ (nat r))
 
   co-mul : (p n q r : ℕ) → co (p * q + n * r) (p * r + n * q) ≡ co p n ⊗ co q r
   unfolding co
@@ -102,12 +104,15 @@ module _ {ℓ} {R : Type ℓ} {O : Ops R} (𝓡 : CommRing O) where
   mono-join [] n ρ = sym (Ring.one-mul 𝓡 (mono n ρ))
   mono-join (i ∷ m) n ρ = mono-ins i (join m n) ρ ∙ ap (λ x. nth ρ i ⊗ x) (mono-join m n ρ) ∙ sym (mul-assoc (nth ρ i) (mono m ρ) (mono n ρ))
 
-  total-into : (p n : ℕ) (m : List ℕ) (s : Sum) (f : Sum → Sum) (t : Sum) (ρ : List R) → ((x : Sum) → total (f x) ρ ≡ total s ρ ⊕ total x ρ) → total (into p n m s f t) ρ ≡ co p n ⊗ mono m ρ ⊕ total s ρ ⊕ total t ρ
+  total-into : (p n : ℕ) (m : List ℕ) (s : Sum) (f : Sum → Sum) (t : Sum) (ρ : List R)
+      → ((x : Sum) → total (f x) ρ ≡ total s ρ ⊕ total x ρ) → total (into p n m s f t) ρ ≡ co p n ⊗ mono m ρ ⊕ total s ρ ⊕ total t ρ
   total-into p n m s f none ρ hf = sym (add-zero (co p n ⊗ mono m ρ ⊕ total s ρ))
   total-into p n m s f (more q r k t) ρ hf = go (cmp m k) refl (total-into p n m s f t ρ hf)
     where
       go : (o : Ordering) → cmp m k ≡ o → total (into p n m s f t) ρ ≡ co p n ⊗ mono m ρ ⊕ total s ρ ⊕ total t ρ → total (elim o [ Ordering·lt ↦ more p n m (f (more q r k t)) | Ordering·eq ↦ more (p + q) (n + r) k (f t) | Ordering·gt ↦ more q r k (into p n m s f t) ]) ρ ≡ co p n ⊗ mono m ρ ⊕ total s ρ ⊕ (co q r ⊗ mono k ρ ⊕ total t ρ)
-      go Ordering·lt e h = ap (λ x. co p n ⊗ mono m ρ ⊕ x) (hf (more q r k t)) ∙ sym (add-assoc (co p n ⊗ mono m ρ) (total s ρ) (co q r ⊗ mono k ρ ⊕ total t ρ))
+      go Ordering·lt e h =
+          ap (λ x. co p n ⊗ mono m ρ ⊕ x) (hf (more q r k t))
+          ∙ sym (add-assoc (co p n ⊗ mono m ρ) (total s ρ) (co q r ⊗ mono k ρ ⊕ total t ρ))
       go Ordering·eq e h =
           let c : m ≡ k = cmp-eq m k (rw e tt) in
           ap₂ _⊕_ (ap (λ x. x ⊗ mono k ρ) (co-add p n q r) ∙ Ring.add-mul 𝓡 (co p n) (co q r) (mono k ρ) ∙ ap (λ x. co p n ⊗ mono x ρ ⊕ co q r ⊗ mono k ρ) (sym c)) (hf t) ∙ Ring.swap4 𝓡 (co p n ⊗ mono m ρ) (co q r ⊗ mono k ρ) (total s ρ) (total t ρ)
@@ -119,15 +124,21 @@ module _ {ℓ} {R : Type ℓ} {O : Ops R} (𝓡 : CommRing O) where
 
   total-scale : (p n : ℕ) (m : List ℕ) (s : Sum) (ρ : List R) → total (scale p n m s) ρ ≡ co p n ⊗ mono m ρ ⊗ total s ρ
   total-scale p n m none ρ = sym (Ring.mul-zero 𝓡 (co p n ⊗ mono m ρ))
-  total-scale p n m (more q r k s) ρ = ap₂ _⊕_ (ap₂ _⊗_ (co-mul p n q r) (mono-join m k ρ) ∙ Ring.mul-swap4 𝓡 (co p n) (co q r) (mono m ρ) (mono k ρ)) (total-scale p n m s ρ) ∙ sym (mul-add (co p n ⊗ mono m ρ) (co q r ⊗ mono k ρ) (total s ρ))
+  total-scale p n m (more q r k s) ρ =
+      ap₂ _⊕_ (ap₂ _⊗_ (co-mul p n q r) (mono-join m k ρ) ∙ Ring.mul-swap4 𝓡 (co p n) (co q r) (mono m ρ) (mono k ρ)) (total-scale p n m s ρ)
+      ∙ sym (mul-add (co p n ⊗ mono m ρ) (co q r ⊗ mono k ρ) (total s ρ))
 
   total-times : (s t : Sum) (ρ : List R) → total (times s t) ρ ≡ total s ρ ⊗ total t ρ
   total-times none t ρ = sym (Ring.zero-mul 𝓡 (total t ρ))
-  total-times (more p n m s) t ρ = total-both (scale p n m t) (times s t) ρ ∙ ap₂ _⊕_ (total-scale p n m t ρ) (total-times s t ρ) ∙ sym (Ring.add-mul 𝓡 (co p n ⊗ mono m ρ) (total s ρ) (total t ρ))
+  total-times (more p n m s) t ρ =
+      total-both (scale p n m t) (times s t) ρ ∙ ap₂ _⊕_ (total-scale p n m t ρ) (total-times s t ρ)
+      ∙ sym (Ring.add-mul 𝓡 (co p n ⊗ mono m ρ) (total s ρ) (total t ρ))
 
   total-flip : (s : Sum) (ρ : List R) → total (flip s) ρ ≡ ⊖ (total s ρ)
   total-flip none ρ = sym (Ring.neg-zero 𝓡)
-  total-flip (more p n m s) ρ = ap₂ _⊕_ (ap (λ x. x ⊗ mono m ρ) (co-flip p n) ∙ Ring.neg-mul 𝓡 (co p n) (mono m ρ)) (total-flip s ρ) ∙ sym (Ring.neg-add 𝓡 (co p n ⊗ mono m ρ) (total s ρ))
+  total-flip (more p n m s) ρ =
+      ap₂ _⊕_ (ap (λ x. x ⊗ mono m ρ) (co-flip p n) ∙ Ring.neg-mul 𝓡 (co p n) (mono m ρ)) (total-flip s ρ)
+      ∙ sym (Ring.neg-add 𝓡 (co p n ⊗ mono m ρ) (total s ρ))
 
   total-null : (s : Sum) (ρ : List R) → T (null s) → total s ρ ≡ 𝟘
   total-null none ρ t = refl

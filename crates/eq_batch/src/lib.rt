@@ -3,7 +3,7 @@
 //     out[y] = sum_j scalar_j eq(point_j)[y]
 //
 // A point's table is made in blocks of at most 2^8 rows, in an array of the function's own (4 KiB), and added to out block by block:
-// 2^n products a point, and some 20 more a block.
+// 2^n products a point, and at most 13 more a block.
 use field::Element;
 use point::equality::BitOrder;
 use table::Refusal;

@@ -6,3 +6,4 @@ pub mod Vertex
 pub mod Successors
 pub mod Select
 pub mod Batch
+pub mod Values

@@ -124,7 +124,7 @@ module _ {ℓ} {R : Type ℓ} {O : Ops R} (𝓡 : CommRing O) where
   next-last zs = rw (eq-eqb (lastRow O zs) (lastRow O zs) refl)
 
   -- next is shifted plus eq at the last row: in any sum of a g that goes over sums
-  next-sum : (zs : List R) (g : ℕ → R → R) → ((y : ℕ) (a b : R) → g y (a ⊕ b) ≡ g y a ⊕ g y b)
+  pub next-sum : (zs : List R) (g : ℕ → R → R) → ((y : ℕ) (a b : R) → g y (a ⊕ b) ≡ g y a ⊕ g y b)
       → sumTo O (2 ^ length zs) (λ y. g y (nextAt O zs y))
       ≡ sumTo O (2 ^ length zs) (λ y. g y (shiftedAt O zs y)) ⊕ g (lastRow O zs) (eqAt O zs (lastRow O zs))
   next-sum zs g over =

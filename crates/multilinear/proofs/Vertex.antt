@@ -34,7 +34,7 @@ module _ {ℓ} {R : Type ℓ} {O : Ops R} (𝓡 : CommRing O) where
   other-bit (suc b) zero hb hc d = refl
   other-bit (suc b) (suc c) hb hc d = absurd (d (omega arith))
 
-  vertex-length : (k v : ℕ) → length (vertexPoint O k v) ≡ k
+  pub vertex-length : (k v : ℕ) → length (vertexPoint O k v) ≡ k
   unfolding vertexPoint
   vertex-length zero v = refl
   vertex-length (suc k) v = ap suc (vertex-length k v)

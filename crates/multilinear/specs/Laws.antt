@@ -1,7 +1,7 @@
 -- What a reader may hold the definitions to: statements over every commutative ring, proved in proofs/. Assumes nothing.
 use mathlib.Core.Path.{_≡_}
 use mathlib.Core.Bool.{cond}
-use Prim.Native.Nat.{ℕ, _^_, _<_}
+use Prim.Native.Nat.{ℕ, _+_, _*_, _^_, _<_}
 use mathlib.Core.List.{List, [], _∷_, _++_, reverse}
 use lib.Dec.{eqb}
 use lib.ListN.{length}
@@ -10,6 +10,7 @@ use Rattle.algebra.specs.Sum.{sumTo}
 use Rattle.multilinear.specs.Equality.{reverseBits, eqAt, eqLsbAt, vertexPoint}
 use Rattle.multilinear.specs.Successors.{NextParts, lastRow, shiftedAt, nextAt, evalNext}
 use Rattle.multilinear.specs.Beside.{evalEq, line}
+use Rattle.multilinear.specs.Values.{valueAt}
 
 pub record EqualityLaws {ℓ} {R : Type ℓ} (O : Ops R) : Type ℓ where
   -- eq sums to 1 over all rows
@@ -36,3 +37,14 @@ pub record SuccessorLaws {ℓ} {R : Type ℓ} (O : Ops R) : Type ℓ where
       → evalNext O ss ts .carry ≡ O .mul (eqAt O ss (lastRow O ss)) (eqAt O ts 0)
   pub omega-is : (ss ts : List R) → length ss ≡ length ts
       → evalNext O ss ts .omega ≡ O .mul (eqAt O ss (lastRow O ss)) (eqAt O ts (lastRow O ts))
+
+pub record ValueLaws {ℓ} {R : Type ℓ} (O : Ops R) : Type ℓ where
+  -- a table's value at a vertex is its entry
+  pub entry : (k v : ℕ) (f : ℕ → R) → v < 2 ^ k → valueAt O (vertexPoint O k v) f ≡ f v
+  -- fixing the first coordinate and then evaluating at the rest is evaluating at the whole point
+  pub prefix : (z : R) (zs : List R) (f : ℕ → R) → valueAt O zs (λ i. line O (f i) (f (2 ^ length zs + i)) z) ≡ valueAt O (z ∷ zs) f
+  -- and so is fixing the last
+  pub suffix : (zs : List R) (z : R) (f : ℕ → R) → valueAt O zs (λ i. line O (f (2 * i)) (f (2 * i + 1)) z) ≡ valueAt O (zs ++ z ∷ []) f
+  -- evaluation is linear in the table
+  pub linear : (zs : List R) (a b : R) (f g : ℕ → R)
+      → valueAt O zs (λ y. O .add (O .mul a (f y)) (O .mul b (g y))) ≡ O .add (O .mul a (valueAt O zs f)) (O .mul b (valueAt O zs g))

@@ -1,4 +1,5 @@
 pub mod Equality
 pub mod Successors
 pub mod Beside
+pub mod Values
 pub mod Laws

@@ -24,7 +24,8 @@ unfolding verdict
 onward-verdict [] = refl
 onward-verdict (t ∷ ts) = go (t .holds) (onward-verdict ts)
   where
-    go : (b : Bool) → onward Accepted ts ≡ verdict ts → onward (cond b (Refused (t .refusal)) Accepted) ts ≡ cond b (Refused (t .refusal)) (verdict ts)
+    go : (b : Bool) → onward Accepted ts ≡ verdict ts
+        → onward (cond b (Refused (t .refusal)) Accepted) ts ≡ cond b (Refused (t .refusal)) (verdict ts)
     go true ih = onward-refused (t .refusal) ts
     go false ih = ih
 

@@ -3,6 +3,7 @@ use Prim.Native.Nat.{ℕ, _^_, _%_}
 use mathlib.Core.Bool.{Bool, not, cond}
 use mathlib.Core.List.{List, [], _∷_}
 use lib.Dec.{eqb, ltb}
+use lib.Count.{ones, trailingZeros}
 use lib.ListN.{length}
 use Rattle.field.specs.Field.{Ext, toValue}
 use Rattle.table.specs.declared.Refusal.{Refusal}
@@ -72,3 +73,15 @@ splits ws = not (eqb (length ws % 4) 0)
 -- 4: the elements of out are not a row for each vertex of k coordinates
 abbrev pub rowsDiffer : List ℕ → ℕ → Bool
 rowsDiffer out k = not (eqb (entries out) (2 ^ k))
+
+-- 2: entries of a table not a power of two, 0 included: the count of ones is not one
+abbrev pub notPower : ℕ → Bool
+notPower n = not (eqb (ones n) 1)
+
+-- the variables of a table of n entries: "the count of trailing zeros of a length with just one bit set"
+abbrev pub variables : ℕ → ℕ
+variables n = trailingZeros 64 n
+
+-- 3: over 20 variables
+abbrev pub tooManyVariables : ℕ → Bool
+tooManyVariables n = ltb most (variables n)

@@ -12,7 +12,7 @@ ghost use lib.ListN.{length};
 ghost use Rattle.algebra.specs.Words.{unreduced};
 ghost use Rattle.field.specs.Field.{p, Holds};
 ghost use Rattle.table.specs.Table.{getAt, putAt, elementAt, entries};
-ghost use Rattle.table.specs.Refusals.{answer, splits, tooMany, rowsDiffer, most};
+ghost use Rattle.table.specs.Refusals.{answer, splits, tooMany, rowsDiffer, most, notPower, variables, tooManyVariables};
 ghost use Rattle.table.specs.Inner.{refuseIf};
 
 // The most variables of a table, and coordinates of a point.
@@ -123,6 +123,27 @@ pub fn rows_differ(out: &[u32], k: usize) -> bool
         return true;
     }
     out.len() / 4 != 1 << k
+}
+
+// 2: a table of n entries is no table of variables.
+pub fn not_power(n: usize) -> bool
+    ensures { λ r. ⌜ r ≡ notPower n ⌝ }
+{
+    usize::count_ones(n) != 1
+}
+
+// The variables of a table of n entries.
+pub fn variables(n: usize) -> usize
+    ensures { λ r. ⌜ r ≡ variables n ⌝ }
+{
+    usize::trailing_zeros(n) as usize
+}
+
+// 3: more variables than a table may have.
+pub fn too_many_variables(n: usize) -> bool
+    ensures { λ r. ⌜ r ≡ tooManyVariables n ⌝ }
+{
+    MOST < variables(n)
 }
 
 // The rows of k coordinates.

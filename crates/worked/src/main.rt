@@ -1,5 +1,6 @@
 // Document 01's worked examples, run through the code: a line for each, its name and the words that the code gives.
 mod elements;
+mod fixed;
 mod points;
 mod print;
 mod replay;
@@ -7,5 +8,6 @@ mod replay;
 fn main() {
     elements::run();
     points::run();
+    fixed::run();
     replay::run();
 }

@@ -61,7 +61,7 @@ pub fn table(answer: Verdict, out: &[u32]) {
     text(b"\n");
 }
 
-fn elements(out: &[u32]) {
+pub fn elements(out: &[u32]) {
     for i in 0..out.len() / 4 {
         value(table::get(out, i).value());
     }

@@ -1,17 +1,10 @@
 //! The element operations against the stand-ins' arithmetic.
 
+use calls::{LIMITS, P, UNREDUCED, element, expect};
 use p3_field::{Base, Element, PrimeCharacteristicRing};
 
 use crate::run::Input::{Number, Words};
-use crate::run::{Run, call, expect};
-
-const P: u32 = Base::MODULUS;
-
-/// Words at the limits, the most telling first.
-const LIMITS: [u32; 8] = [0, P - 1, 1, 2, P / 2, P / 2 + 1, P - 2, 11];
-
-/// Words that are not below p.
-const UNREDUCED: [u32; 4] = [P, P + 1, 1 << 31, u32::MAX];
+use crate::run::{Run, call, choices};
 
 /// Lengths of a slice that should have four words, the right one among them.
 const LENGTHS: [usize; 5] = [4, 0, 3, 5, 8];
@@ -52,27 +45,21 @@ impl<const N: usize> Operation<'_, N> {
             start += width;
             &words[start - width..start]
         });
-        let out = run.stale(4);
+        let out = run.random.stale(4);
         self.case(run, operands, &out);
     }
 
     /// Every choice of limits for all words, as many limits as `most` allows.
     fn limits(&self, run: &mut Run, most: usize) {
-        let width = self.width();
-        let kinds = (1..=LIMITS.len())
-            .rev()
-            .find(|kinds| kinds.pow(width as u32) <= most)
-            .unwrap();
-        for choice in 0..kinds.pow(width as u32) {
-            let word = |i: usize| LIMITS[choice / kinds.pow(i as u32) % kinds];
-            self.joined(run, &(0..width).map(word).collect::<Vec<_>>());
+        for words in choices(&LIMITS, self.width(), most) {
+            self.joined(run, &words);
         }
     }
 
     /// Random words, a limit now and then.
     fn random(&self, run: &mut Run, count: usize) {
         for _ in 0..count {
-            let words = reduced(run, self.width());
+            let words = run.random.words(self.width());
             self.joined(run, &words);
         }
     }
@@ -83,8 +70,8 @@ impl<const N: usize> Operation<'_, N> {
         for place in 0..width {
             for other in 0..width {
                 for word in UNREDUCED {
-                    let mut words = reduced(run, width);
-                    words[other] = UNREDUCED[run.below(4) as usize];
+                    let mut words = run.random.words(width);
+                    words[other] = UNREDUCED[run.random.below(4) as usize];
                     words[place] = word;
                     self.joined(run, &words);
                     if place == other {
@@ -106,12 +93,12 @@ impl<const N: usize> Operation<'_, N> {
             for damaged in 0..=N {
                 let mut operands: [Vec<u32>; N] = std::array::from_fn(|i| {
                     let width = self.operands[i].1;
-                    reduced(run, if width == 4 { length(i) } else { width })
+                    run.random.words(if width == 4 { length(i) } else { width })
                 });
                 if let Some(word) = operands.get_mut(damaged).and_then(|words| words.last_mut()) {
                     *word = P;
                 }
-                let out = run.stale(length(N));
+                let out = run.random.stale(length(N));
                 self.case(run, operands.each_ref().map(Vec::as_slice), &out);
             }
         }
@@ -128,18 +115,6 @@ impl<const N: usize> Operation<'_, N> {
         self.unreduced(run);
         self.lengths(run);
     }
-}
-
-fn reduced(run: &mut Run, count: usize) -> Vec<u32> {
-    let mut word = || match run.below(8) {
-        0 => LIMITS[run.below(8) as usize],
-        _ => run.below(P),
-    };
-    (0..count).map(|_| word()).collect()
-}
-
-fn element(words: &[u32]) -> Element {
-    Element::new(words.try_into().unwrap())
 }
 
 const X: (&str, usize) = ("x", 4);
@@ -232,7 +207,7 @@ pub fn compare(run: &mut Run) {
             });
         }
         for _ in 0..run.count(2_000, 20_000) {
-            let times = run.below(200) as u64;
+            let times = run.random.below(200) as u64;
             mul_repeat(run, times, |operation, run| operation.random(run, 1));
         }
         for times in [1_000, 65_536, 1_000_000] {

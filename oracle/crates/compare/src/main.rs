@@ -2,8 +2,12 @@
 //!
 //!     compare [--long] [--seed N]
 
+mod batch;
 mod elements;
+mod operation;
+mod points;
 mod run;
+mod tables;
 
 use std::time::{SystemTime, UNIX_EPOCH};
 use std::{env, process};
@@ -27,6 +31,9 @@ fn main() {
     println!("seed {seed}");
     let mut run = run::Run::new(seed, long);
     elements::compare(&mut run);
+    points::compare(&mut run);
+    tables::compare(&mut run);
+    batch::compare(&mut run);
     run.finish();
 }
 

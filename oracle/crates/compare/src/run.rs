@@ -5,23 +5,17 @@ use std::fmt;
 use std::process;
 use std::time::Instant;
 
+use calls::{Outcome, Random};
+
 use Input::{Number, Words};
 
 pub struct Run {
-    /// Larger counts.
-    pub long: bool,
-    state: u64,
+    pub random: Random,
+    long: bool,
     operation: &'static str,
     cases: u64,
     total: u64,
     started: Instant,
-}
-
-/// What a call answers, and what it leaves in the slices lent to it.
-#[derive(PartialEq)]
-pub struct Outcome<const N: usize> {
-    pub answer: u32,
-    pub lent: [Vec<u32>; N],
 }
 
 #[derive(Clone, Copy)]
@@ -33,8 +27,8 @@ pub enum Input<'a> {
 impl Run {
     pub fn new(seed: u64, long: bool) -> Self {
         Self {
+            random: Random(seed),
             long,
-            state: seed,
             operation: "",
             cases: 0,
             total: 0,
@@ -47,30 +41,14 @@ impl Run {
         if self.long { long } else { short }
     }
 
-    /// splitmix64.
-    pub fn random(&mut self) -> u64 {
-        self.state = self.state.wrapping_add(0x9e3779b97f4a7c15);
-        let mut z = self.state;
-        z = (z ^ (z >> 30)).wrapping_mul(0xbf58476d1ce4e5b9);
-        z = (z ^ (z >> 27)).wrapping_mul(0x94d049bb133111eb);
-        z ^ (z >> 31)
-    }
-
-    pub fn below(&mut self, bound: u32) -> u32 {
-        (((self.random() >> 32) * bound as u64) >> 32) as u32
-    }
-
-    /// Words of any value, as they may stand in a slice before a call.
-    pub fn stale(&mut self, count: usize) -> Vec<u32> {
-        (0..count).map(|_| self.random() as u32).collect()
-    }
-
     /// Runs the cases of one operation and prints how many there were.
     pub fn operation(&mut self, name: &'static str, cases: impl FnOnce(&mut Self)) {
+        let started = Instant::now();
         self.operation = name;
         self.cases = 0;
         cases(self);
-        println!("{name:<24}{:>12} cases", self.cases);
+        let seconds = started.elapsed().as_secs_f64();
+        println!("{name:<28}{:>10} cases{seconds:>8.1} s", self.cases);
         self.total += self.cases;
     }
 
@@ -89,8 +67,13 @@ impl Run {
         for (name, input) in inputs {
             println!("  {name} = {input}");
         }
-        println!("  expected {expected}");
-        println!("  got      {got}");
+        for (name, outcome) in [("expected", expected), ("got     ", got)] {
+            print!("  {name} answer {}", outcome.answer);
+            for words in &outcome.lent {
+                print!(", {}", Words(words));
+            }
+            println!();
+        }
         for (i, (expected, got)) in expected.lent.iter().zip(&got.lent).enumerate() {
             if let Some(at) = (0..got.len()).find(|&at| expected.get(at) != got.get(at)) {
                 println!("  lent slice {i} differs first at word {at}");
@@ -105,25 +88,6 @@ impl Run {
     }
 }
 
-/// The expected outcome: the first refusal whose test holds, and then the lent
-/// slices as they were; otherwise 0 and the slices that `accepted` gives.
-pub fn expect<const N: usize>(
-    refusals: &[(bool, u32)],
-    before: [&[u32]; N],
-    accepted: impl FnOnce() -> [Vec<u32>; N],
-) -> Outcome<N> {
-    match refusals.iter().find(|(holds, _)| *holds) {
-        Some(&(_, answer)) => Outcome {
-            answer,
-            lent: before.map(<[u32]>::to_vec),
-        },
-        None => Outcome {
-            answer: 0,
-            lent: accepted(),
-        },
-    }
-}
-
 /// The outcome of a call that is lent copies of these slices.
 pub fn call<const N: usize>(
     before: [&[u32]; N],
@@ -132,6 +96,24 @@ pub fn call<const N: usize>(
     let mut lent = before.map(<[u32]>::to_vec);
     let answer = operation(lent.each_mut().map(Vec::as_mut_slice));
     Outcome { answer, lent }
+}
+
+/// Every choice for so many places, of as many kinds as give at most `most`
+/// choices, the first kinds first.
+pub fn choices<T: Copy>(kinds: &[T], places: usize, most: usize) -> impl Iterator<Item = Vec<T>> {
+    let count = |kinds: usize| kinds.pow(places as u32);
+    let tried = (1..=kinds.len())
+        .rev()
+        .find(|&tried| count(tried) <= most)
+        .unwrap();
+    (0..count(tried)).map(move |mut choice| {
+        let kind = |_| {
+            let kind = kinds[choice % tried];
+            choice /= tried;
+            kind
+        };
+        (0..places).map(kind).collect()
+    })
 }
 
 /// The words of a long slice that are printed.
@@ -146,15 +128,5 @@ impl fmt::Display for Input<'_> {
             }
             Words(words) => write!(f, "{words:?}"),
         }
-    }
-}
-
-impl<const N: usize> fmt::Display for Outcome<N> {
-    fn fmt(&self, f: &mut fmt::Formatter) -> fmt::Result {
-        write!(f, "answer {}", self.answer)?;
-        for words in &self.lent {
-            write!(f, ", {}", Words(words))?;
-        }
-        Ok(())
     }
 }

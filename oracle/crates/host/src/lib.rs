@@ -41,4 +41,15 @@ operations! {
     host_mul_base = mul_base [x] (word: u32) [out];
     host_from_base = from_base [] (word: u32) [out];
     host_mul_repeat = mul_repeat [x, y] (times: u64) [out];
+
+    host_equality_at_vertex = equality_at_vertex [point] (vertex: u64) [out];
+    host_equality_weights_msb = equality_weights_msb [point] () [out];
+    host_equality_weights_lsb = equality_weights_lsb [point] () [out];
+    host_eval_eq = eval_eq [point, row] () [out];
+    host_eval_next = eval_next [point, row] () [out];
+    host_eval_select = eval_select [point] (var: u32) [out];
+    host_new_from_point = new_from_point [point, scale] () [out];
+    host_new_next_from_point = new_next_from_point [point] () [out];
+    host_eval_eq_batch = eval_eq_batch [points, scalars] (n: u64) [out];
+    host_eval_eq_batch_add = eval_eq_batch_add [points, scalars] (n: u64) [out];
 }

@@ -1,0 +1,89 @@
+-- What an accepted list of tests says of a table, and answer and out of a call, by the verdict on its tests. Assumes nothing.
+use mathlib.Core.Path.{_≡_, refl, ap, _∙_}
+use mathlib.Core.Logic.{_≢_}
+use mathlib.Core.Bool.{false, cond}
+use Prim.Native.Nat.{ℕ, zero, suc, _*_, _/_, _^_, _<_}
+use native.Mathlib.Nat.{pow-suc}
+use native.Mathlib.Omega.{arith}
+use mathlib.Core.List.{List}
+use lib.Dec.{eqb}
+use lib.ListN.{length}
+use borrow.Author.Tests.{eqb-false, eq-eqb, ne-eqb}
+use Rattle.algebra.specs.Ring.{Ops}
+use Rattle.algebra.specs.Words.{unreduced}
+use Rattle.field.specs.Field.{p, field, fromWords, Reduced}
+use Rattle.field.specs.declared.Element.{Element}
+use Rattle.table.specs.Table.{entries}
+use Rattle.table.specs.Refusals.{verdict, leaves, splits, notPower}
+use Rattle.table.specs.declared.Refusal.{Refusal}
+use Rattle.table.specs.declared.Verdict.{Verdict}
+use Rattle.table.specs.declared.Verdict.the-variants.{Accepted, Refused}
+use Rattle.table.proofs.Tests.{whole, or-none}
+use Rattle.table.proofs.Powers.{power-of}
+use Rattle.table.proofs.Verdicts.{Clear, clear}
+use Rattle.fixing.specs.declared.Rule.{Rule}
+use Rattle.fixing.specs.declared.Rule.the-variants.{Sum}
+use Rattle.fixing.specs.declared.Remaining.{Remaining}
+use Rattle.fixing.specs.declared.Remaining.the-variants as remaining
+use Rattle.fixing.specs.Fixing.{fixTests, sumTests, fixedTable, remainingOf, fixAnswer, fixOut, sumAnswer, sumOut}
+use Rattle.fixing.specs.Inner.{Halves}
+
+-- a power of two but 1 is even
+even : (n v : ℕ) → n ≡ 2 ^ v → n ≢ 1 → n ≡ 2 * (n / 2)
+even n zero e h = absurd (h e)
+even n (suc v) e h = omega (arith, pow-suc 2 v)
+
+-- a table of a variable or more has two halves
+module _ (ws : List ℕ) (b : length ws < 2 ^ 64) where
+  halves : {r : Element} → splits ws ≡ false → notPower (entries ws) ≡ false → unreduced p ws ≡ false → entries ws ≢ 1 → Reduced r
+      → Halves (entries ws / 2) r ws
+  halves s n u h d =
+      let w : 4 * entries ws ≡ length ws = whole ws s in
+      let e : entries ws ≡ 2 * (entries ws / 2) = even (entries ws) _ (power-of (entries ws) (omega arith) n) h in
+      record { few = omega arith; count = omega arith; below = u; by = d }
+
+  pub fix-tested : (r : Element) → Accepted ≡ verdict (fixTests ws r) → Halves (entries ws / 2) r ws
+  fix-tested r e =
+      let h : Clear (fixTests ws r) = clear (fixTests ws r) e in
+      let u : (unreduced p ws ≡ false) × (unreduced p (r .c) ≡ false) = or-none (unreduced p ws) (unreduced p (r .c)) (h .1 .1 .1 .0) in
+      halves (h .0) (h .1 .0) (u .0) (eqb-false (entries ws) 1 (h .1 .1 .1 .1 .0)) (record { words-below = u .1 })
+
+  pub sum-tested : {r : Element} → Accepted ≡ verdict (sumTests ws) → entries ws ≢ 1 → Reduced r → Halves (entries ws / 2) r ws
+  sum-tested e =
+      let h : Clear (sumTests ws) = clear (sumTests ws) e in
+      halves (h .0) (h .1 .0) (h .1 .1 .1 .0)
+
+-- answer and out, at once
+both : (n : ℕ) (new old : List ℕ) (v : Verdict) {a : Verdict} {w : List ℕ} → v ≡ a → w ≡ leaves v new old
+    → (remainingOf v n ≡ remainingOf a n) × (w ≡ leaves a new old)
+both n new old v e l = (ap (λ u. remainingOf u n) e, l ∙ ap (λ u. leaves u new old) e)
+
+module _ (rule : Rule) (ws : List ℕ) (r : Element) where
+  abbrev Fixed : Remaining → List ℕ → Type 0
+  Fixed x w = (x ≡ fixAnswer ws r) × (w ≡ fixOut rule ws r)
+
+  pub fix-refused : {x : Refusal} → Refused x ≡ verdict (fixTests ws r) → Fixed (remaining.Refused x) ws
+  unfolding fixAnswer fixOut
+  fix-refused e = both (entries ws / 2) _ ws _ e refl
+
+  pub fixed : {w : List ℕ} → Accepted ≡ verdict (fixTests ws r) → w ≡ fixedTable rule ws (fromWords r)
+      → Fixed (remaining.Entries (entries ws / 2)) w
+  unfolding fixAnswer fixOut
+  fixed e q = both (entries ws / 2) _ ws Accepted e q
+
+module _ (ws : List ℕ) where
+  abbrev Summed : Remaining → List ℕ → Type 0
+  Summed x w = (x ≡ sumAnswer ws) × (w ≡ sumOut ws)
+
+  pub sum-refused : {x : Refusal} → Refused x ≡ verdict (sumTests ws) → Summed (remaining.Refused x) ws
+  unfolding sumAnswer sumOut
+  sum-refused e = both (cond (eqb (entries ws) 1) 1 (entries ws / 2)) _ ws _ e refl
+
+  pub sum-constant : Accepted ≡ verdict (sumTests ws) → entries ws ≡ 1 → Summed (remaining.Entries 1) ws
+  unfolding sumAnswer sumOut
+  sum-constant e q = rw (eq-eqb (entries ws) 1 q) (both 1 ws ws Accepted e refl)
+
+  pub summed : {w : List ℕ} → Accepted ≡ verdict (sumTests ws) → entries ws ≢ 1 → w ≡ fixedTable Sum ws (field .zero)
+      → Summed (remaining.Entries (entries ws / 2)) w
+  unfolding sumAnswer sumOut
+  summed e h q = rw (ne-eqb (entries ws) 1 h) (both (entries ws / 2) (fixedTable Sum ws (field .zero)) ws Accepted e q)

@@ -1,0 +1,2 @@
+mod Halving
+mod FixingOutcomes

@@ -1,0 +1,45 @@
+-- `fixing::test_fix` meets its contract: the tests one by one. Assumes nothing.
+use borrow.Author.Needs.{needs}
+use Rattle.table.proofs.Verdicts.{gone-through}
+use Rattle.fixing.proofs.test_fix.Statement.{statement}
+use Rattle.fixing.proofs.test_fix.Tie as tie
+
+returns : tie.Need-returns
+returns c =
+    let reduced = c .before in
+    let few = reduced .before in
+    let power = few .before .before in
+    let whole = power .before .before in
+    let either = whole .before .before in
+    gone-through _
+    (rw (
+      c .refuse-if5 .ensures,
+      reduced .refuse-if4 .ensures,
+      few .refuse-if3 .ensures,
+      few .before .too-many-variables .ensures,
+      power .refuse-if2 .ensures,
+      power .before .not-power .ensures,
+      whole .refuse-if .ensures,
+      whole .before .splits .ensures,
+      either .either .ensures,
+      either .before .unreduced2 .ensures,
+      either .before .before .before .unreduced .ensures,
+    ))
+
+pub test-fix-spec : {M : Type 1} → statement M
+test-fix-spec =
+    tie.close
+    (tie.spec
+    (search needs)
+    (λ c. search needs)
+    (search needs)
+    (search needs)
+    (search needs)
+    (search needs)
+    (search needs)
+    (search needs)
+    (search needs)
+    (search needs)
+    (search needs)
+    (search needs)
+    returns)

@@ -1,0 +1,40 @@
+-- What the inner functions take and give. No exported operation's contract cites it. Assumes nothing.
+use mathlib.Core.Path.{_≡_}
+use mathlib.Core.Bool.{false}
+use Prim.Native.Nat.{ℕ, _+_, _*_, _≤_, _<_}
+use mathlib.Core.List.{List}
+use lib.ListN.{length}
+use Rattle.algebra.specs.Ring.{Ops}
+use Rattle.algebra.specs.Words.{unreduced}
+use Rattle.multilinear.specs.Beside.{line}
+use Rattle.field.specs.Field.{p, Ext, field, Reduced}
+use Rattle.field.specs.declared.Element.{Element}
+use Rattle.fixing.specs.declared.Rule.{Rule}
+use Rattle.fixing.specs.declared.Rule.the-variants.{Prefix, Suffix, Sum, Monomial}
+
+-- two entries made one
+abbrev pub combined : Rule → Ext → Ext → Ext → Ext
+combined Prefix a0 a1 r = line field a0 a1 r
+combined Suffix a0 a1 r = line field a0 a1 r
+combined Sum a0 a1 r = field .add a0 a1
+combined Monomial a0 a1 r = field .add a0 (field .mul a1 r)
+
+-- where entry i's two stand, of 2h
+abbrev pub firstOf : Rule → ℕ → ℕ → ℕ
+firstOf Suffix h i = 2 * i
+firstOf Prefix h i = i
+firstOf Sum h i = i
+firstOf Monomial h i = i
+
+abbrev pub secondOf : Rule → ℕ → ℕ → ℕ
+secondOf Suffix h i = 2 * i + 1
+secondOf Prefix h i = h + i
+secondOf Sum h i = h + i
+secondOf Monomial h i = h + i
+
+-- a table of 2h entries, reduced as r is
+pub record Halves (h : ℕ) (r : Element) (ws : List ℕ) : Type 0 where
+  pub few : h < 2305843009213693952
+  pub count : length ws ≡ 8 * h
+  pub below : unreduced p ws ≡ false
+  pub by : Reduced r

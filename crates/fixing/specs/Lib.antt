@@ -1,0 +1,2 @@
+pub mod Fixing
+pub mod Inner
