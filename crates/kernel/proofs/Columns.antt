@@ -1,0 +1,47 @@
+-- Four products with base words gained, coordinate by coordinate. Assumes nothing.
+use mathlib.Core.Path.{_≡_, ap, _∙_}
+use Prim.Native.Nat.{ℕ, _%_}
+use Rattle.algebra.specs.Ring.{Ops, CommRing}
+use Rattle.algebra.specs.Residue.{reduce}
+use Rattle.algebra.specs.Words.{wordsOf, numbers}
+use Rattle.field.specs.Field.{p, p-pos, Ext, field, base, toWords, fromWords, at, Reduced}
+use Rattle.field.specs.declared.Element.{Element}
+use Rattle.field.proofs.Laws.{field-ring, word-below}
+use Rattle.kernel.specs.declared.steps.Four.{Four}
+use Rattle.kernel.specs.Kernel.{fourProducts}
+use Rattle.kernel.specs.Inner.{Small, column, plusProducts}
+use Rattle.kernel.proofs.Settling.{words, numbers-gain}
+
+regroup : (x a b c d : Ext)
+    → field .add (field .add (field .add (field .add x a) b) c) d ≡ field .add x (field .add (field .add (field .add a b) c) d)
+regroup x a b c d = simp (field-ring .add-assoc)
+
+module _ (w0 w1 w2 w3 : Element) where
+  pub small-column : Reduced w0 → Reduced w1 → Reduced w2 → Reduced w3 → (k : ℕ) → Small (column w0 w1 w2 w3 k)
+  unfolding column
+  small-column h0 h1 h2 h3 k =
+      record { small0 = word-below h0 k; small1 = word-below h1 k; small2 = word-below h2 k; small3 = word-below h3 k }
+
+  module _ (x : Element) (f : Four) where
+    -- coordinate k of x, with its products
+    abbrev coordinate : ℕ → ℕ
+    coordinate k = plusProducts (at x k) (column w0 w1 w2 w3 k) f
+
+    abbrev product : Element → ℕ → Ext
+    product w n = field .mul (fromWords w) (base n)
+
+    numbers-four : numbers p p-pos (coordinate 0) (coordinate 1) (coordinate 2) (coordinate 3)
+        ≡ field .add (fromWords x) (fourProducts (fromWords w0) (fromWords w1) (fromWords w2) (fromWords w3) (f .x0) (f .x1) (f .x2) (f .x3))
+    unfolding column fromWords fourProducts
+    numbers-four =
+        numbers-gain _ _ _ _ _ _ _ _ (f .x3)
+        ∙ ap (λ (y : Ext). field .add y (product w3 (f .x3)))
+        (numbers-gain _ _ _ _ _ _ _ _ (f .x2)
+        ∙ ap (λ (y : Ext). field .add y (product w2 (f .x2)))
+        (numbers-gain _ _ _ _ _ _ _ _ (f .x1) ∙ ap (λ (y : Ext). field .add y (product w1 (f .x1))) (numbers-gain _ _ _ _ _ _ _ _ (f .x0))))
+        ∙ regroup (fromWords x) (product w0 (f .x0)) (product w1 (f .x1)) (product w2 (f .x2)) (product w3 (f .x3))
+
+    pub four-law : words (coordinate 0 % p) (coordinate 1 % p) (coordinate 2 % p) (coordinate 3 % p)
+        ≡ toWords (field .add (fromWords x) (fourProducts (fromWords w0) (fromWords w1) (fromWords w2) (fromWords w3) (f .x0) (f .x1) (f .x2) (f .x3)))
+    unfolding toWords wordsOf numbers reduce
+    four-law = ap toWords numbers-four

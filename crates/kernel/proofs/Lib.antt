@@ -1,0 +1,4 @@
+mod Summing
+mod Settling
+mod Gaining
+mod Columns

@@ -1,0 +1,24 @@
+-- `kernel::dot` meets its contract. Assumes nothing.
+use borrow.Author.Needs.{needs}
+use Rattle.kernel.proofs.Summing.{room}
+use Rattle.kernel.proofs.Settling.{finish}
+use Rattle.kernel.proofs.dot.Statement.{statement}
+use Rattle.kernel.proofs.dot.Tie as tie
+
+settle-requires : tie.Need-settle-requires
+settle-requires c κs =
+    let begin = c .before .before .before .before in
+    room _ _ _ (begin .pre) (c .rest .ensures)
+
+returns : tie.Need-returns
+returns c = rw (c .settle .ensures) (finish _ _ (c .before .rest .ensures))
+
+pub dot-spec : {M : Type 1} → statement M
+dot-spec =
+    tie.close
+    (tie.spec
+    (search needs)
+    (λ c κs. search needs)
+    (λ c κs. search needs)
+    settle-requires
+    returns)

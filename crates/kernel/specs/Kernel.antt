@@ -1,0 +1,47 @@
+-- What the inner loops take and give. No exported operation's contract cites it. Assumes nothing.
+use mathlib.Core.Path.{_≡_}
+use mathlib.Core.Bool.{false}
+use Prim.Native.Nat.{ℕ, _+_, _*_, _≤_, _<_, _^_}
+use mathlib.Core.List.{List}
+use lib.ListN.{length, getD}
+use Rattle.algebra.specs.Ring.{Ops}
+use Rattle.algebra.specs.Words.{unreduced}
+use Rattle.field.specs.Field.{p, Ext, field, base, toWords, fromWords}
+use Rattle.field.specs.declared.Element.{Element}
+use Rattle.table.specs.Table.{getAt, elementAt}
+use Rattle.table.specs.Refusals.{most}
+
+-- the words of the largest table
+abbrev pub mostWords : ℕ
+mostWords = 2 ^ most
+
+-- a weight for each of at most so many words, all reduced
+pub record Dots (weights words : List ℕ) : Type 0 where
+  pub size : length weights ≡ 4 * length words
+  pub few : length words ≤ mostWords
+  pub weights-below : unreduced p weights ≡ false
+  pub words-below : unreduced p words ≡ false
+
+-- k rows of n words, all reduced, and an element of out for each word of a row
+pub record Rows (k n : ℕ) (out words : List ℕ) : Type 0 where
+  pub room : 4 * n ≤ length out
+  pub there : k * n ≤ length words
+  pub words-below : unreduced p words ≡ false
+
+-- the first n elements gain g 0, .. g (n - 1), the others are as they were, and reduced words stay reduced
+pub record Gained (n : ℕ) (g : ℕ → Ext) (ws w : List ℕ) : Type 0 where
+  pub len : length w ≡ length ws
+  pub gained : (y : ℕ) → y < n → getAt w y ≡ toWords (field .add (elementAt ws y) (g y))
+  pub others : (y : ℕ) → n ≤ y → getAt w y ≡ getAt ws y
+  pub below : unreduced p ws ≡ false → unreduced p w ≡ false
+
+-- w0 x0 + w1 x1 + w2 x2 + w3 x3
+unfoldable pub fourProducts : Ext → Ext → Ext → Ext → ℕ → ℕ → ℕ → ℕ → Ext
+fourProducts w0 w1 w2 w3 x0 x1 x2 x3 =
+    field .add (field .add (field .add (field .mul w0 (base x0)) (field .mul w1 (base x1))) (field .mul w2 (base x2))) (field .mul w3 (base x3))
+
+-- word y of each of four rows of n words, times the row's weight
+abbrev pub fourRows : Element → Element → Element → Element → ℕ → List ℕ → ℕ → Ext
+fourRows w0 w1 w2 w3 n words y =
+    fourProducts (fromWords w0) (fromWords w1) (fromWords w2) (fromWords w3) (getD words y 0) (getD words (n + y) 0) (getD words (2 * n + y) 0)
+    (getD words (3 * n + y) 0)

@@ -1,0 +1,2 @@
+pub mod Kernel
+pub mod Inner

@@ -1,0 +1,60 @@
+// The inner loops of values and folds, with few divisions.
+mod halves;
+mod steps;
+mod sums;
+
+use field::Element;
+use steps::Four;
+ghost use Rattle.algebra.specs.Ring.{Ops};
+ghost use Rattle.algebra.specs.Sum.{sumTo};
+ghost use Rattle.field.specs.Field.{field, base, fromWords, Reduced, Holds};
+ghost use Rattle.table.specs.Table.{elementAt};
+ghost use lib.ListN.{length, getD};
+ghost use Rattle.kernel.specs.Kernel.{Dots, Rows, Gained, fourRows};
+
+// The sum of weights[y] words[y].
+pub fn dot(weights: &[u32], words: &[u32]) -> Element
+    requires { ⌜ Dots (now weights) (now words) ⌝ }
+    ensures { λ r. ⌜ Holds r (sumTo field (length (now (words .entry))) (λ y. field .mul (elementAt (now (weights .entry)) y) (base (getD (now (words .entry)) y 0)))) ⌝ }
+{
+    let done = 4 * (words.len() / 4);
+    sums::rest(sums::fours(weights, words), weights, words, done).settle()
+}
+
+// out[y] gains weight words[y], for each word.
+pub fn gain_row(out: &mut [u32], words: &[u32], weight: Element)
+    requires { ⌜ Rows 1 (length (now words)) (now out) (now words) ⌝ }
+    requires { ⌜ Reduced weight ⌝ }
+    ensures { λ _. ⌜ Gained (length (now (words .entry))) (λ y. field .mul (fromWords weight) (base (getD (now (words .entry)) y 0))) (now (out .entry)) (now (out .exit)) ⌝ }
+{
+    for y in 0..words.len() {
+        let sum = steps::step(table::get(out, y), weight, words[y]);
+        table::put(out, y, sum);
+    }
+}
+
+// out[y] gains w0 words[y] + w1 words[n + y] + w2 words[2n + y] + w3 words[3n + y], for each y below n.
+pub fn gain_rows(
+    out: &mut [u32],
+    words: &[u32],
+    n: usize,
+    w0: Element,
+    w1: Element,
+    w2: Element,
+    w3: Element,
+)
+    requires { ⌜ Rows 4 n (now out) (now words) ⌝ }
+    requires { ⌜ Reduced w0 × Reduced w1 × Reduced w2 × Reduced w3 ⌝ }
+    ensures { λ _. ⌜ Gained n (fourRows w0 w1 w2 w3 n (now (words .entry))) (now (out .entry)) (now (out .exit)) ⌝ }
+{
+    for y in 0..n {
+        let column = Four {
+            x0: words[y],
+            x1: words[n + y],
+            x2: words[2 * n + y],
+            x3: words[3 * n + y],
+        };
+        let sum = steps::step_four(table::get(out, y), w0, w1, w2, w3, column);
+        table::put(out, y, sum);
+    }
+}
