@@ -22,7 +22,7 @@ use Rattle.fixing.specs.Inner.{combined, firstOf, secondOf}
 abbrev pub Ahead : ℕ → ℕ → ℕ → Type 0
 Ahead h i j = (i ≤ j) × (j < 2 * h)
 
-pub first-ahead : (rule : Rule) (h i : ℕ) → i < h → Ahead h i (firstOf rule 0 i)
+pub first-ahead : (rule : Rule) (h i : ℕ) → i < h → Ahead h i (firstOf rule i)
 first-ahead Prefix h i m = omega arith
 first-ahead Suffix h i m = omega arith
 first-ahead Sum h i m = omega arith
@@ -36,7 +36,7 @@ second-ahead Monomial h i m = omega arith
 
 -- made one, they are entry i of what remains
 combined-at : (rule : Rule) (h i : ℕ) (t : ℕ → Ext) (r : Ext)
-    → combined rule (t (firstOf rule 0 i)) (t (secondOf rule h i)) r ≡ fixedAt rule h t r i
+    → combined rule (t (firstOf rule i)) (t (secondOf rule h i)) r ≡ fixedAt rule h t r i
 combined-at Prefix h i t r = refl
 combined-at Suffix h i t r = refl
 combined-at Sum h i t r = refl
@@ -79,7 +79,7 @@ module _ (rule : Rule) (h i : ℕ) (r : Ext) (ws w : List ℕ) (d : Halving rule
         }
 
     -- of the values that the calls of a turn give
-    pub turn : {k₀ k₁ : ℕ} {a₀ a₁ e : Element} {w₁ : List ℕ} → k₀ ≡ firstOf rule 0 i → a₀ ≡ getAt w k₀
+    pub turn : {k₀ k₁ : ℕ} {a₀ a₁ e : Element} {w₁ : List ℕ} → k₀ ≡ firstOf rule i → a₀ ≡ getAt w k₀
         → k₁ ≡ secondOf rule h i → a₁ ≡ getAt w k₁
         → Holds e (combined rule (fromWords a₀) (fromWords a₁) r) → w₁ ≡ putAt w i e → Halving rule h (i + 1) r ws w₁
     turn e₀ g₀ e₁ g₁ e₂ e₃ =
@@ -90,7 +90,7 @@ module _ (rule : Rule) (h i : ℕ) (r : Ext) (ws w : List ℕ) (d : Halving rule
           g₁,
           e₀,
           e₁,
-          d .ahead (firstOf rule 0 i) (first-ahead rule h i m .0),
+          d .ahead (firstOf rule i) (first-ahead rule h i m .0),
           d .ahead (secondOf rule h i) (second-ahead rule h i m .0),
           combined-at rule h i (elementAt ws) r,
         ) step

@@ -20,11 +20,11 @@ combined Sum a0 a1 r = field .add a0 a1
 combined Monomial a0 a1 r = field .add a0 (field .mul a1 r)
 
 -- where entry i's two stand, of 2h
-abbrev pub firstOf : Rule → ℕ → ℕ → ℕ
-firstOf Suffix h i = 2 * i
-firstOf Prefix h i = i
-firstOf Sum h i = i
-firstOf Monomial h i = i
+abbrev pub firstOf : Rule → ℕ → ℕ
+firstOf Suffix i = 2 * i
+firstOf Prefix i = i
+firstOf Sum i = i
+firstOf Monomial i = i
 
 abbrev pub secondOf : Rule → ℕ → ℕ → ℕ
 secondOf Suffix h i = 2 * i + 1

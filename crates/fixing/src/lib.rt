@@ -130,7 +130,7 @@ fn halve(entries: &mut [u32], h: usize, rule: Rule, r: Element)
 
 fn first_of(rule: Rule, i: usize) -> usize
     requires { ⌜ i < 2305843009213693952 ⌝ }
-    ensures { λ x. ⌜ x ≡ firstOf rule 0 i ⌝ }
+    ensures { λ x. ⌜ x ≡ firstOf rule i ⌝ }
 {
     match rule {
         Rule::Suffix => 2 * i,

@@ -8,6 +8,7 @@ use mathlib.Core.List.{List, [], _∷_, _++_}
 use lib.Dec.{eqb}
 use lib.ListN.{length}
 use borrow.Author.Tests.{eq-eqb, ne-eqb}
+use Rattle.field.specs.Field.{at}
 use Rattle.field.specs.declared.Element.{Element}
 use Rattle.field.specs.declared.Value.{Value}
 use Rattle.table.specs.Table.{putAt}
@@ -38,14 +39,17 @@ unfolding putAt
 first a b c d ws u i v = put-cons (u .c0) (u .c1) (u .c2) (u .c3) ws i (wordsElement v)
 
 -- elements put into words that have just their count
-pub put-one : (ws : List ℕ) (v : Value) → length ws ≡ 4 → putAt ws 0 (wordsElement v) ≡ valueWords v
+pub put-four : (ws : List ℕ) (e : Element) → length ws ≡ 4 → putAt ws 0 e ≡ at e 0 ∷ at e 1 ∷ at e 2 ∷ at e 3 ∷ []
 unfolding putAt
-put-one [] v l = absurd (omega arith)
-put-one (a ∷ []) v l = absurd (omega arith)
-put-one (a ∷ b ∷ []) v l = absurd (omega arith)
-put-one (a ∷ b ∷ c ∷ []) v l = absurd (omega arith)
-put-one (a ∷ b ∷ c ∷ d ∷ []) v l = refl
-put-one (a ∷ b ∷ c ∷ d ∷ f ∷ ws) v l = absurd (omega arith)
+put-four [] e l = absurd (omega arith)
+put-four (a ∷ []) e l = absurd (omega arith)
+put-four (a ∷ b ∷ []) e l = absurd (omega arith)
+put-four (a ∷ b ∷ c ∷ []) e l = absurd (omega arith)
+put-four (a ∷ b ∷ c ∷ d ∷ []) e l = refl
+put-four (a ∷ b ∷ c ∷ d ∷ f ∷ ws) e l = absurd (omega arith)
+
+pub put-one : (ws : List ℕ) (v : Value) → length ws ≡ 4 → putAt ws 0 (wordsElement v) ≡ valueWords v
+put-one ws v l = put-four ws (wordsElement v) l
 
 put-two : (ws : List ℕ) (u v : Value) → length ws ≡ 8
     → putAt (putAt ws 0 (wordsElement u)) 1 (wordsElement v) ≡ valueWords u ++ valueWords v

@@ -17,6 +17,7 @@ use Rattle.table.specs.declared.Verdict.the-variants.{Accepted, Refused}
 use Rattle.table.proofs.Tests.{same, or-none, reduced-at}
 use Rattle.table.proofs.Verdicts.{Clear, clear}
 use Rattle.host.specs.Elements.{elementTests, Outcome}
+use Rattle.host.proofs.Giving.{put-four}
 
 pub record Ready (x y out : List ℕ) : Type 0 where
   pub x-four : length x ≡ 4
@@ -27,13 +28,8 @@ pub record Ready (x y out : List ℕ) : Type 0 where
 
 -- an element put into four words leaves its own
 put-whole : (out : List ℕ) (e : Element) (z : Ext) → length out ≡ 4 → Holds e z → putAt out 0 e ≡ wordsOf z
-unfolding putAt toWords wordsOf
-put-whole [] e z l h = absurd (omega arith)
-put-whole (a ∷ []) e z l h = absurd (omega arith)
-put-whole (a ∷ b ∷ []) e z l h = absurd (omega arith)
-put-whole (a ∷ b ∷ c ∷ []) e z l h = absurd (omega arith)
-put-whole (a ∷ b ∷ c ∷ d ∷ []) e z l h = rw (h .words)
-put-whole (a ∷ b ∷ c ∷ d ∷ f ∷ ws) e z l h = absurd (omega arith)
+unfolding toWords wordsOf
+put-whole out e z l h = put-four out e l ∙ rw (h .words)
 
 module _ (x y out : List ℕ) where
   pub ready : Accepted ≡ verdict (elementTests x y out) → Ready x y out

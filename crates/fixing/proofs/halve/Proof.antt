@@ -26,7 +26,7 @@ module _ (test : tie.In-loop Inv-loop μ-loop) where
   abbrev i : ℕ
   i = test .before .loop .i
 
-  first : Ahead (begin .args .h) i (firstOf (begin .args .rule) 0 i)
+  first : Ahead (begin .args .h) i (firstOf (begin .args .rule) i)
   first = first-ahead (begin .args .rule) _ _ (test .loop-test .taken)
 
   second : Ahead (begin .args .h) i (secondOf (begin .args .rule) (begin .args .h) i)
