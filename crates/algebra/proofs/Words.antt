@@ -6,7 +6,7 @@ use native.Mathlib.Numerals.{add-one}
 use native.Mathlib.Omega.{arith}
 use mathlib.Core.List.{List, [], _∷_, _++_}
 use lib.Dec.{leb}
-use lib.ListN.{length, getD, drop, set, replicate}
+use lib.ListN.{length, getD, take, drop, set, replicate}
 use lib.Seq.{drop-cons, drop-length, getD-drop}
 use borrow.Author.Tests.{leb-false, le-leb, lt-leb}
 use Rattle.algebra.specs.Residue.{Residue}
@@ -62,6 +62,13 @@ module _ (m : ℕ) where
   module _ (pos : 0 < m) where
     pub unreduced-drop : (n : ℕ) (ws : List ℕ) → unreduced m ws ≡ false → unreduced m (drop n ws) ≡ false
     unreduced-drop n ws h = each-below (drop n ws) (λ i. rw (getD-drop n ws i 0) (below ws h pos (n + i)))
+
+    pub unreduced-take : (n : ℕ) (ws : List ℕ) → unreduced m ws ≡ false → unreduced m (take n ws) ≡ false
+    unfolding unreduced
+    unreduced-take zero ws h = refl
+    unreduced-take (suc n) [] h = refl
+    unreduced-take (suc n) (w ∷ ws) h =
+        unreduced-cons w (take n ws) (below (w ∷ ws) h pos 0) (unreduced-take n ws (each-below ws (λ i. below (w ∷ ws) h pos (suc i))))
 
     pub unreduced-set : (ws : List ℕ) (i v : ℕ) → v < m → unreduced m ws ≡ false → unreduced m (set ws i v) ≡ false
     unfolding unreduced

@@ -14,10 +14,10 @@ use Rattle.table.specs.Refusals.{verdict, leaves}
 use Rattle.table.specs.declared.Refusal.{Refusal}
 use Rattle.table.specs.declared.Verdict.{Verdict}
 use Rattle.table.specs.declared.Verdict.the-variants.{Accepted, Refused}
+use Rattle.table.specs.Inner.{Gained}
+use Rattle.table.proofs.Gaining.{gained-table, zeros-table}
 use Rattle.eq_batch.specs.Batch.{batchTests, batchAnswer, batchAt, setOut, addOut}
-use Rattle.eq_batch.specs.Inner.{Gained}
 use Rattle.eq_batch.proofs.Accepted.{Taken}
-use Rattle.eq_batch.proofs.GainedTables.{gained-table, set-table}
 
 -- out after a batch that sets, and after one that adds
 abbrev outAfter : Bool → ℕ → List ℕ → List ℕ → List ℕ → List ℕ
@@ -71,4 +71,4 @@ module _ (n : ℕ) (points scalars out : List ℕ) (h : length scalars ≢ 0) {w
       → Gained 0 (2 ^ n) (batchAt n points scalars) zeros w
       → (Accepted ≡ batchAnswer false n points scalars out) × (w ≡ setOut n points scalars out)
   becomes t z d =
-      answered false n points scalars out h (t .answer) (set-table (2 ^ n) (length out) (t .size) z (batchAt n points scalars) w d)
+      answered false n points scalars out h (t .answer) (zeros-table (2 ^ n) (length out) (t .size) z (batchAt n points scalars) w d)

@@ -13,11 +13,11 @@ use Rattle.field.specs.declared.Element.{Element}
 use Rattle.field.proofs.Laws.{read-back, reduced}
 use Rattle.multilinear.specs.Equality.{eqAt}
 use Rattle.table.specs.Table.{elementAt, elements, tableWords}
+use Rattle.table.specs.Inner.{Gained}
 use Rattle.table.proofs.Laws.{table-get, table-length}
-use Rattle.point.specs.Inner.{Coordinates, Fits}
-use Rattle.eq_batch.specs.Inner.{Gained, Room}
-use Rattle.eq_batch.proofs.Gaining.{gained-as}
-use Rattle.table.proofs.Parts.{rest, rest-length, rest-below, rest-elements}
+use Rattle.table.proofs.Gaining.{gained-as}
+use Rattle.point.specs.Inner.{Coordinates, Follows}
+use Rattle.eq_batch.specs.Inner.{Room}
 
 -- a table's elements, whatever follows it
 table-room : (n : ℕ) (f : ℕ → Ext) (r : List ℕ) → Room 0 n (tableWords n f ++ r)
@@ -36,34 +36,24 @@ fits-room low rows n few e size =
 module _ (point : List ℕ) (high low rows : ℕ) (e : rows ≡ 2 ^ low) (seed : Element) (room : List ℕ) where
   -- the table of the block
   abbrev pub blockAt : ℕ → Ext
-  blockAt y = field .mul (fromWords seed) (eqAt field (elements (rest high point) 0 low) y)
+  blockAt y = field .mul (fromWords seed) (eqAt field (elements point high low) y)
 
-  module _ (few : low ≤ 8) (size : length room ≡ 1024) where
-    lent : length (take (4 * rows) room) ≡ 4 * rows
-    lent = length-take-le (4 * rows) room (fits-room low rows _ few e size)
-
-    pub ready : Coordinates (high + low) point → Reduced seed → Fits low (rest high point) seed (take (4 * rows) room)
-    ready c r =
-        record {
-          point-is = record {
-            few = omega (arith, c .few);
-            count = omega (arith, c .count, rest-length high point);
-            below = rest-below high point (c .below);
-          };
-          scale-is = r;
-          room = lent ∙ ap (λ n. 4 * n) e;
-        }
+  pub ready : low ≤ 8 → length room ≡ 1024 → Coordinates (high + low) point → Reduced seed
+      → Follows high low point seed (take (4 * rows) room)
+  ready few size c r =
+      record {
+        point-is = c;
+        scale-is = r;
+        room = length-take-le (4 * rows) room (fits-room low rows _ few e size) ∙ ap (λ n. 4 * n) e;
+      }
 
   module _ {x : List ℕ} (q : x ≡ tableWords (2 ^ low) blockAt) where
     pub filled : Room 0 rows (x ++ drop (4 * rows) room)
     filled = rw (q, e) (table-room (2 ^ low) blockAt (drop (4 * 2 ^ low) room))
 
-    entry : (y : ℕ) → y < rows
-        → elementAt (x ++ drop (4 * rows) room) y ≡ field .mul (fromWords seed) (eqAt field (elements point high low) y)
-    entry y h =
-        rw q (ap fromWords (table-get (2 ^ low) blockAt (drop (4 * rows) room) y (omega arith)) ∙ read-back _)
-        ∙ ap (λ zs. field .mul (fromWords seed) (eqAt field zs y)) (rest-elements high point low)
+    entry : (y : ℕ) → y < rows → elementAt (x ++ drop (4 * rows) room) y ≡ blockAt y
+    entry y h = rw q (ap fromWords (table-get (2 ^ low) blockAt (drop (4 * rows) room) y (omega arith)) ∙ read-back _)
 
     pub block-gained : {from : ℕ} {ws w : List ℕ} → Gained from rows (elementAt (x ++ drop (4 * rows) room)) ws w
-        → Gained from (2 ^ low) (λ y. field .mul (fromWords seed) (eqAt field (elements point high low) y)) ws w
-    block-gained d = rw e at (gained-as (λ y. field .mul (fromWords seed) (eqAt field (elements point high low) y)) d entry)
+        → Gained from (2 ^ low) blockAt ws w
+    block-gained d = rw e at (gained-as blockAt d entry)

@@ -1,8 +1,7 @@
-mod Gaining
+mod Rooms
 mod Gathering
 mod Blocks
 mod BlockByBlock
 mod Summing
 mod Accepted
-mod GainedTables
 mod BatchOutcomes

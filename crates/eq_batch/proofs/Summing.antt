@@ -10,13 +10,14 @@ use Rattle.field.specs.declared.Element.{Element}
 use Rattle.field.proofs.Laws.{read-as}
 use Rattle.multilinear.specs.Equality.{eqAt}
 use Rattle.multilinear.specs.Beside.{evalBatch}
-use Rattle.eq_batch.specs.Inner.{Gained, Room}
-use Rattle.eq_batch.proofs.Gaining.{nothing, added}
+use Rattle.table.specs.Inner.{Gained}
+use Rattle.table.proofs.Gaining.{nothing, added}
+use Rattle.eq_batch.specs.Inner.{Room}
 
 module _ (scalar : ℕ → Ext) (point : ℕ → List Ext) (n : ℕ) where
   pub start : (ws : List ℕ) → Room 0 n ws → Gained 0 n (evalBatch field 0 scalar point) ws ws
   unfolding evalBatch sumTo
-  start ws r = nothing n ws r
+  start ws r = nothing 0 n ws (r .reduced)
 
   pub turn : (j : ℕ) (ws w : List ℕ) → Gained 0 n (evalBatch field j scalar point) ws w → (c : Element) (zs : List Ext) {w′ : List ℕ}
       → Holds c (scalar j) → zs ≡ point j → Gained 0 n (λ y. field .mul (fromWords c) (eqAt field zs y)) w w′

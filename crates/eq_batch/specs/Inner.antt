@@ -1,24 +1,14 @@
 -- What the inner functions take and give. No exported operation's contract cites it. Assumes nothing.
 use mathlib.Core.Path.{_≡_}
 use mathlib.Core.Bool.{false}
-use Prim.Native.Nat.{ℕ, _+_, _*_, _^_, _≤_, _<_}
+use Prim.Native.Nat.{ℕ, _+_, _*_, _≤_, _<_}
 use mathlib.Core.List.{List}
 use lib.ListN.{length}
-use Rattle.algebra.specs.Ring.{Ops}
 use Rattle.algebra.specs.Words.{unreduced}
-use Rattle.field.specs.Field.{p, Ext, field, toWords, Reduced}
-use Rattle.field.specs.declared.Element.{Element}
-use Rattle.table.specs.Table.{getAt, elementAt, elements}
+use Rattle.field.specs.Field.{p, Reduced}
+use Rattle.table.specs.Table.{getAt, elements}
 use Rattle.table.specs.Refusals.{most}
-use Rattle.point.specs.Inner.{Coordinates}
 use Rattle.eq_batch.specs.Batch.{mostPoints, column}
-
--- the elements of out from place `from` on gain g 0, .. g (n - 1), and the others are as they were
-pub record Gained (from n : ℕ) (g : ℕ → Ext) (ws w : List ℕ) : Type 0 where
-  pub len : length w ≡ length ws
-  pub gained : (y : ℕ) → y < n → getAt w (from + y) ≡ toWords (field .add (elementAt ws (from + y)) (g y))
-  pub below : (y : ℕ) → y < from → getAt w y ≡ getAt ws y
-  pub above : (y : ℕ) → from + n ≤ y → getAt w y ≡ getAt ws y
 
 -- n elements from place `from` on stand in out, each reduced
 pub record Room (from n : ℕ) (ws : List ℕ) : Type 0 where

@@ -5,7 +5,6 @@
 // A point's table is made in blocks of at most 2^8 rows, in an array of the function's own (4 KiB), and added to out block by block:
 // 2^n products a point, and at most 13 more a block.
 use field::Element;
-use point::equality::BitOrder;
 use table::Refusal;
 use table::Verdict;
 ghost use mathlib.Core.Path.{_≡_};
@@ -19,9 +18,10 @@ ghost use Rattle.multilinear.specs.Beside.{evalBatch};
 ghost use Rattle.field.specs.Field.{field, fromWords, Reduced};
 ghost use Rattle.table.specs.Table.{elementAt, elements};
 ghost use Rattle.table.specs.Refusals.{verdict};
+ghost use Rattle.table.specs.Inner.{Gained};
 ghost use Rattle.point.specs.Inner.{Coordinates};
 ghost use Rattle.eq_batch.specs.Batch.{column, batchTests, batchAnswer, setOut, addOut};
-ghost use Rattle.eq_batch.specs.Inner.{Gained, Room, Points, Column, Gathered};
+ghost use Rattle.eq_batch.specs.Inner.{Room, Points, Column, Gathered};
 
 // The most points of a batch.
 pub const MOST_POINTS: usize = 64;
@@ -41,7 +41,7 @@ pub fn eval_eq_batch(n: usize, points: &[u32], scalars: &[u32], out: &mut [u32])
     match tested {
         Verdict::Refused(refusal) => Verdict::Refused(refusal),
         Verdict::Accepted => {
-            clear(out);
+            table::clear(out);
             add_points(n, points, scalars, scalars.len() / 4, out);
             Verdict::Accepted
         }
@@ -105,15 +105,6 @@ fn both(a: bool, b: bool) -> bool
     if a { b } else { false }
 }
 
-// Every element of out becomes zero.
-fn clear(out: &mut [u32])
-    ensures { λ _. ⌜ now (out .exit) ≡ replicate (length (now (out .entry))) 0 ⌝ }
-{
-    for i in 0..out.len() {
-        out[i] = 0;
-    }
-}
-
 // out gains the sum over the w points.
 fn add_points(n: usize, points: &[u32], scalars: &[u32], w: usize, out: &mut [u32])
     requires { ⌜ Points n w (now points) (now scalars) × Room 0 (2 ^ n) (now out) ⌝ }
@@ -171,15 +162,8 @@ fn add_block(point: &[u32], high: usize, low: usize, seed: Element, from: usize,
 {
     let rows = table::rows(low);
     let words = 4 * rows;
-    let skipped = 4 * high;
     let mut block = block_room();
-    point::equality::fill(
-        &mut block[..words],
-        &point[skipped..],
-        low,
-        BitOrder::Msb,
-        seed,
-    );
+    point::equality::fill_last(&mut block[..words], point, high, low, seed);
     add_table(&block, rows, from, out);
 }
 

@@ -79,6 +79,9 @@ pub base-law : (k : ℕ) → k < p → words k 0 0 0 ≡ toWords (base k)
 unfolding base toWords wordsOf reduce constant residues
 base-law k h = simp (mod-eq-of-lt h)
 
+pub base-zero : base 0 ≡ field .zero
+base-zero = sym (read-back (base 0)) ∙ ap fromWords (sym (base-law 0 p-pos) ∙ zero-law) ∙ read-back (field .zero)
+
 -- products of base words
 pub base-mul : (a b : ℕ) → base (a * b % p) ≡ field .mul (base a) (base b)
 unfolding base field

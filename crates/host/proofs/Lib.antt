@@ -1,3 +1,4 @@
 mod Outcomes
 mod Chaining
 mod Giving
+mod Fitting

@@ -1,7 +1,7 @@
 -- Answers with elements, as the host library gives them: a number, and the elements' words in out. Assumes nothing.
 use mathlib.Core.Path.{_≡_}
-use Prim.Native.Nat.{ℕ}
-use mathlib.Core.Bool.{cond}
+use Prim.Native.Nat.{ℕ, _%_}
+use mathlib.Core.Bool.{Bool, cond}
 use mathlib.Core.List.{List, [], _∷_, _++_}
 use lib.Dec.{eqb}
 use lib.ListN.{length}
@@ -14,6 +14,8 @@ use Rattle.table.specs.declared.Evaluation.{Evaluation}
 use Rattle.table.specs.declared.Evaluation.the-variants as evaluation
 use Rattle.point.specs.declared.next.Next.{Next}
 use Rattle.point.specs.declared.next.Next.the-variants as next
+use Rattle.fixing.specs.declared.Remaining.{Remaining}
+use Rattle.fixing.specs.declared.Remaining.the-variants as remaining
 
 abbrev pub valueWords : Value → List ℕ
 valueWords v = v .c0 ∷ v .c1 ∷ v .c2 ∷ v .c3 ∷ []
@@ -52,3 +54,19 @@ GivenNext e was now r = Given 12 was (nextNumber e) (nextOut e was) was now r
 -- a call with a scale of four words
 abbrev pub GivenScaled : List ℕ → Verdict → List ℕ → List ℕ → List ℕ → ℕ → Type 0
 GivenScaled scale v new was now r = Given 4 scale (answer v) new was now r
+
+-- words that are just an element, or just one word
+abbrev pub isFour : List ℕ → Bool
+isFour ws = eqb (length ws) 4
+
+abbrev pub isOne : List ℕ → Bool
+isOne ws = eqb (length ws) 1
+
+-- the count of entries that remain, in one word
+abbrev pub remainingNumber : Remaining → ℕ
+remainingNumber (remaining.Entries n) = 0
+remainingNumber (remaining.Refused r) = number r
+
+abbrev pub remainingOut : Remaining → List ℕ → List ℕ
+remainingOut (remaining.Entries n) was = n % 4294967296 ∷ []
+remainingOut (remaining.Refused r) was = was

@@ -6,11 +6,12 @@ use table::Evaluation;
 use table::Refusal;
 use table::Verdict;
 ghost use mathlib.Core.Path.{_≡_};
+ghost use mathlib.Core.Bool.{not, _&&_};
 ghost use Prim.Native.Nat.{_+_, _*_, _<_};
 ghost use lib.ListN.{length};
 ghost use Rattle.table.specs.Refusals.{number};
 ghost use Rattle.table.specs.Table.{putAt};
-ghost use Rattle.host.specs.Answers.{GivenValue, GivenNext, wordsElement};
+ghost use Rattle.host.specs.Answers.{GivenValue, GivenNext, wordsElement, isFour};
 
 // 0 and the element's words, or the refusal's number.
 pub fn give(e: Evaluation, out: &mut [u32]) -> u32
@@ -44,6 +45,16 @@ pub fn give_next(e: Next, out: &mut [u32]) -> u32
             0
         }
     }
+}
+
+// One of the two is not four words.
+pub fn not_both_four(a: &[u32], b: &[u32]) -> bool
+    ensures { λ r. ⌜ r ≡ not (isFour (now (a .entry)) && isFour (now (b .entry))) ⌝ }
+{
+    if a.len() != 4 {
+        return true;
+    }
+    b.len() != 4
 }
 
 pub fn number(refusal: Refusal) -> u32

@@ -1,6 +1,8 @@
 // The operations for a host program that compares and measures them: words in slices, and 0 or the refusal's number.
 mod answers;
 mod elements;
+pub mod fixed;
+pub mod values;
 
 use elements::Operation;
 use table::Refusal;

@@ -1,4 +1,4 @@
 mod Summing
 mod Settling
-mod Gaining
+mod Pairing
 mod Columns

@@ -1,14 +1,13 @@
 -- What the inner loops take and give. No exported operation's contract cites it. Assumes nothing.
 use mathlib.Core.Path.{_≡_}
 use mathlib.Core.Bool.{false}
-use Prim.Native.Nat.{ℕ, _+_, _*_, _≤_, _<_, _^_}
+use Prim.Native.Nat.{ℕ, _+_, _*_, _≤_, _^_}
 use mathlib.Core.List.{List}
 use lib.ListN.{length, getD}
 use Rattle.algebra.specs.Ring.{Ops}
 use Rattle.algebra.specs.Words.{unreduced}
-use Rattle.field.specs.Field.{p, Ext, field, base, toWords, fromWords}
+use Rattle.field.specs.Field.{p, Ext, field, base, fromWords}
 use Rattle.field.specs.declared.Element.{Element}
-use Rattle.table.specs.Table.{getAt, elementAt}
 use Rattle.table.specs.Refusals.{most}
 
 -- the words of the largest table
@@ -22,18 +21,23 @@ pub record Dots (weights words : List ℕ) : Type 0 where
   pub weights-below : unreduced p weights ≡ false
   pub words-below : unreduced p words ≡ false
 
+-- n weights and n entries of a table of elements, all reduced
+pub record Pairs (n : ℕ) (weights entries : List ℕ) : Type 0 where
+  pub weights-there : 4 * n ≤ length weights
+  pub entries-there : 4 * n ≤ length entries
+  pub weights-below : unreduced p weights ≡ false
+  pub entries-below : unreduced p entries ≡ false
+
+-- a row of reduced words, and an element of out for each, from place `from` on
+pub record Row (from : ℕ) (out words : List ℕ) : Type 0 where
+  pub room : 4 * (from + length words) ≤ length out
+  pub words-below : unreduced p words ≡ false
+
 -- k rows of n words, all reduced, and an element of out for each word of a row
 pub record Rows (k n : ℕ) (out words : List ℕ) : Type 0 where
   pub room : 4 * n ≤ length out
   pub there : k * n ≤ length words
   pub words-below : unreduced p words ≡ false
-
--- the first n elements gain g 0, .. g (n - 1), the others are as they were, and reduced words stay reduced
-pub record Gained (n : ℕ) (g : ℕ → Ext) (ws w : List ℕ) : Type 0 where
-  pub len : length w ≡ length ws
-  pub gained : (y : ℕ) → y < n → getAt w y ≡ toWords (field .add (elementAt ws y) (g y))
-  pub others : (y : ℕ) → n ≤ y → getAt w y ≡ getAt ws y
-  pub below : unreduced p ws ≡ false → unreduced p w ≡ false
 
 -- w0 x0 + w1 x1 + w2 x2 + w3 x3
 unfoldable pub fourProducts : Ext → Ext → Ext → Ext → ℕ → ℕ → ℕ → ℕ → Ext

@@ -9,8 +9,9 @@ ghost use Rattle.algebra.specs.Ring.{Ops};
 ghost use Rattle.algebra.specs.Sum.{sumTo};
 ghost use Rattle.field.specs.Field.{field, base, fromWords, Reduced, Holds};
 ghost use Rattle.table.specs.Table.{elementAt};
+ghost use Rattle.table.specs.Inner.{Gained};
 ghost use lib.ListN.{length, getD};
-ghost use Rattle.kernel.specs.Kernel.{Dots, Rows, Gained, fourRows};
+ghost use Rattle.kernel.specs.Kernel.{Dots, Pairs, Row, Rows, fourRows};
 
 // The sum of weights[y] words[y].
 pub fn dot(weights: &[u32], words: &[u32]) -> Element
@@ -21,15 +22,27 @@ pub fn dot(weights: &[u32], words: &[u32]) -> Element
     sums::rest(sums::fours(weights, words), weights, words, done).settle()
 }
 
-// out[y] gains weight words[y], for each word.
-pub fn gain_row(out: &mut [u32], words: &[u32], weight: Element)
-    requires { ⌜ Rows 1 (length (now words)) (now out) (now words) ⌝ }
+// The sum of weights[y] entries[y] over n entries of a table of elements.
+pub fn dot_ext(weights: &[u32], entries: &[u32], n: usize) -> Element
+    requires { ⌜ Pairs n (now weights) (now entries) ⌝ }
+    ensures { λ r. ⌜ Holds r (sumTo field n (λ y. field .mul (elementAt (now (weights .entry)) y) (elementAt (now (entries .entry)) y))) ⌝ }
+{
+    let mut sum = Element::zero();
+    for y in 0..n {
+        sum = sum.add(table::read(weights, y).mul(table::read(entries, y)));
+    }
+    sum
+}
+
+// out[from + y] gains weight words[y], for each word.
+pub fn gain_row(out: &mut [u32], from: usize, words: &[u32], weight: Element)
+    requires { ⌜ Row from (now out) (now words) ⌝ }
     requires { ⌜ Reduced weight ⌝ }
-    ensures { λ _. ⌜ Gained (length (now (words .entry))) (λ y. field .mul (fromWords weight) (base (getD (now (words .entry)) y 0))) (now (out .entry)) (now (out .exit)) ⌝ }
+    ensures { λ _. ⌜ Gained from (length (now (words .entry))) (λ y. field .mul (fromWords weight) (base (getD (now (words .entry)) y 0))) (now (out .entry)) (now (out .exit)) ⌝ }
 {
     for y in 0..words.len() {
-        let sum = steps::step(table::get(out, y), weight, words[y]);
-        table::put(out, y, sum);
+        let sum = steps::step(table::get(out, from + y), weight, words[y]);
+        table::put(out, from + y, sum);
     }
 }
 
@@ -45,7 +58,7 @@ pub fn gain_rows(
 )
     requires { ⌜ Rows 4 n (now out) (now words) ⌝ }
     requires { ⌜ Reduced w0 × Reduced w1 × Reduced w2 × Reduced w3 ⌝ }
-    ensures { λ _. ⌜ Gained n (fourRows w0 w1 w2 w3 n (now (words .entry))) (now (out .entry)) (now (out .exit)) ⌝ }
+    ensures { λ _. ⌜ Gained 0 n (fourRows w0 w1 w2 w3 n (now (words .entry))) (now (out .entry)) (now (out .exit)) ⌝ }
 {
     for y in 0..n {
         let column = Four {

@@ -7,3 +7,5 @@ pub mod Successors
 pub mod Select
 pub mod Batch
 pub mod Values
+pub mod Folds
+pub mod Weighed

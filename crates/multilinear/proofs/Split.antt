@@ -5,7 +5,7 @@ use native.Mathlib.Omega.{arith}
 use native.Mathlib.Nat.{add-comm as Nat·add-comm}
 use mathlib.Core.List.{List, [], _∷_, _++_}
 use lib.ListN.{length, length-append}
-use lib.Pow.{shr-shr, high}
+use lib.Pow.{shr-shr, high, split}
 use Rattle.algebra.specs.Ring.{Ops, CommRing}
 use Rattle.algebra.proofs.Ring.{one-mul}
 use Rattle.multilinear.specs.Equality.{bit, forBit, eqAt}
@@ -34,3 +34,12 @@ module _ {ℓ} {R : Type ℓ} {O : Ops R} (𝓡 : CommRing O) where
   pub eq-split : (us vs : List R) (h l : ℕ) → l < 2 ^ length vs → eqAt O (us ++ vs) (h * 2 ^ length vs + l) ≡ eqAt O us h ⊗ eqAt O vs l
   eq-split us vs h l b =
       eq-append us vs (h * 2 ^ length vs + l) ∙ ap₂ (λ n e. eqAt O us n ⊗ e) (high h (length vs) b) (eq-wraps vs h l)
+
+  -- the weight of row y by its high and its low bits; no bound on y, for only its lowest bits are read
+  pub weight-split : (us vs : List R) (a : R) (y : ℕ)
+      → a ⊗ eqAt O us (y / 2 ^ length vs) ⊗ eqAt O vs (y % 2 ^ length vs) ≡ a ⊗ eqAt O (us ++ vs) y
+  weight-split us vs a y =
+      mul-assoc _ _ _
+      ∙ ap (λ e. a ⊗ (eqAt O us (y / 2 ^ length vs) ⊗ e))
+      (sym (eq-wraps vs (y / 2 ^ length vs) (y % 2 ^ length vs)) ∙ ap (eqAt O vs) (split y (length vs)))
+      ∙ ap (λ e. a ⊗ e) (sym (eq-append us vs y))

@@ -6,12 +6,13 @@ use native.Mathlib.Omega.{arith}
 use native.Mathlib.Nat.{two-pow-succ}
 use mathlib.Core.List.{List, [], _∷_, _++_}
 use lib.ListN.{length, length-append}
+use lib.Pow.{pow-add}
 use borrow.Author.Tests.{eq-eqb, ne-eqb}
 use Rattle.algebra.specs.Ring.{Ops, CommRing, minus}
 use Rattle.algebra.specs.Sum.{sumTo}
-use Rattle.algebra.proofs.Ring.{zero-add, one-mul, zero-mul, add-mul}
+use Rattle.algebra.proofs.Ring.{zero-add, one-mul, zero-mul, mul-zero, add-mul, mul-left-comm}
 use Rattle.algebra.proofs.Reading.{reading, ring}
-use Rattle.algebra.proofs.Sums.{sum-ext, sum-none, sum-add, sum-scale, sum-gain}
+use Rattle.algebra.proofs.Sums.{sum-ext, sum-none, sum-add, sum-scale, sum-blocks, sum-gain}
 use Rattle.multilinear.specs.Equality.{eqAt, vertexPoint}
 use Rattle.multilinear.specs.Successors.{lastRow, shiftedAt}
 use Rattle.multilinear.specs.Beside.{line}
@@ -19,6 +20,7 @@ use Rattle.multilinear.specs.Values.{valueAt, nextValueAt}
 use Rattle.multilinear.specs.Laws.{ValueLaws}
 use Rattle.multilinear.proofs.Equality.{eq-low, eq-high}
 use Rattle.multilinear.proofs.Halves.{sum-halves, sum-scaled}
+use Rattle.multilinear.proofs.Split.{eq-split}
 use Rattle.multilinear.proofs.Successors.{next-sum}
 use Rattle.multilinear.proofs.Vertex.{vertex, vertex-length}
 
@@ -39,6 +41,11 @@ module _ {ℓ} {R : Type ℓ} {O : Ops R} (𝓡 : CommRing O) where
   pub value-ext : (zs : List R) (f g : ℕ → R) → ((y : ℕ) → y < 2 ^ length zs → f y ≡ g y) → valueAt O zs f ≡ valueAt O zs g
   unfolding valueAt
   value-ext zs f g e = sum-ext 𝓡 (2 ^ length zs) _ _ (λ y h. ap (O .mul _) (e y h))
+
+  -- the value of a table of zeros
+  pub value-none : (zs : List R) → valueAt O zs (λ y. 𝟘) ≡ 𝟘
+  unfolding valueAt
+  value-none zs = sum-ext 𝓡 (2 ^ length zs) _ _ (λ y h. mul-zero 𝓡 _) ∙ sum-none 𝓡 (2 ^ length zs)
 
   -- a line by its weights
   weights : (a b z : R) → (𝟙 ⊝ z) ⊗ a ⊕ z ⊗ b ≡ line O a b z
@@ -107,8 +114,48 @@ module _ {ℓ} {R : Type ℓ} {O : Ops R} (𝓡 : CommRing O) where
       (ap (λ e. e ⊗ f v) (vertex 𝓡 k v v h h ∙ rw (eq-eqb v v refl)) ∙ one-mul 𝓡 _ ∙ sym (zero-add 𝓡 _))
       ∙ ap (λ x. x ⊕ f v) (sum-none 𝓡 (2 ^ k)) ∙ zero-add 𝓡 (f v)
 
+  pub value-scale : (zs : List R) (a : R) (f : ℕ → R) → valueAt O zs (λ y. a ⊗ f y) ≡ a ⊗ valueAt O zs f
+  unfolding valueAt
+  value-scale zs a f = sum-scaled 𝓡 (2 ^ length zs) _ _ a (λ y h. mul-left-comm 𝓡 _ _ _)
+
+  -- a block of 2^(length vs) rows for each row of us
+  pub value-split : (us vs : List R) (f : ℕ → R)
+      → valueAt O us (λ h. valueAt O vs (λ l. f (h * 2 ^ length vs + l))) ≡ valueAt O (us ++ vs) f
+  unfolding valueAt
+  value-split us vs f =
+      sum-ext 𝓡 (2 ^ length us) _ _ (λ h b. sym (block h)) ∙ sym (sum-blocks 𝓡 (2 ^ length us) (2 ^ length vs) F)
+      ∙ ap (λ n. sumTo O n F) (sym rows)
+    where
+      F : ℕ → R
+      F y = eqAt O (us ++ vs) y ⊗ f y
+
+      rows : 2 ^ length (us ++ vs) ≡ 2 ^ length us * 2 ^ length vs
+      rows = ap (λ n. 2 ^ n) (length-append us vs) ∙ pow-add 2 (length us) (length vs)
+
+      block : (h : ℕ) → sumTo O (2 ^ length vs) (λ l. F (h * 2 ^ length vs + l))
+          ≡ eqAt O us h ⊗ sumTo O (2 ^ length vs) (λ l. eqAt O vs l ⊗ f (h * 2 ^ length vs + l))
+      block h =
+          sum-scaled 𝓡 (2 ^ length vs) _ _ (eqAt O us h)
+          (λ l b. ap (λ e. e ⊗ f (h * 2 ^ length vs + l)) (eq-split 𝓡 us vs h l b) ∙ mul-assoc _ _ _)
+
+  -- rows 0 and 1: shifted[0] is 0, and next[1] is the whole of eq
+  next-of-one : (z : R) (f : ℕ → R) → nextValueAt O (z ∷ []) f ≡ f 1
+  unfolding nextValueAt sumTo eqAt
+  next-of-one z f = law z (f 0) (f 1)
+    where
+      law : (z a b : R) → 𝟘 ⊕ 𝟘 ⊗ a ⊕ ((𝟙 ⊝ z) ⊗ 𝟙 ⊕ z ⊗ 𝟙) ⊗ b ≡ b
+      law z a b = reading 𝓡 (z ∷ a ∷ b ∷ []) λ q. simp (ring, q, q .at 0, q .at 1, q .at 2) (q .close tt)
+
   pub value-laws : ValueLaws O
-  value-laws = record { entry = value-entry; prefix = value-prefix; suffix = value-suffix; linear = value-linear }
+  value-laws =
+      record {
+        entry = value-entry;
+        prefix = value-prefix;
+        suffix = value-suffix;
+        linear = value-linear;
+        split = value-split;
+        next-of-one = next-of-one;
+      }
 
   -- next is shifted plus eq at the last row
   pub next-value-is : (zs : List R) (f : ℕ → R)

@@ -10,7 +10,10 @@ use Rattle.algebra.specs.Sum.{sumTo}
 use Rattle.multilinear.specs.Equality.{reverseBits, eqAt, eqLsbAt, vertexPoint}
 use Rattle.multilinear.specs.Successors.{NextParts, lastRow, shiftedAt, nextAt, evalNext}
 use Rattle.multilinear.specs.Beside.{evalEq, line}
-use Rattle.multilinear.specs.Values.{valueAt}
+use Rattle.multilinear.specs.Values.{valueAt, nextValueAt}
+use Rattle.multilinear.specs.declared.Side.{Side}
+use Rattle.multilinear.specs.declared.Weight.the-variants.{Plain, Shifted, Next}
+use Rattle.multilinear.specs.Folds.{wordOf, foldAt}
 
 pub record EqualityLaws {ℓ} {R : Type ℓ} (O : Ops R) : Type ℓ where
   -- eq sums to 1 over all rows
@@ -48,3 +51,16 @@ pub record ValueLaws {ℓ} {R : Type ℓ} (O : Ops R) : Type ℓ where
   -- evaluation is linear in the table
   pub linear : (zs : List R) (a b : R) (f g : ℕ → R)
       → valueAt O zs (λ y. O .add (O .mul a (f y)) (O .mul b (g y))) ≡ O .add (O .mul a (valueAt O zs f)) (O .mul b (valueAt O zs g))
+  -- summing block by block, against the table of the first coordinates and that of the others, gives the same value
+  pub split : (us vs : List R) (f : ℕ → R) → valueAt O us (λ h. valueAt O vs (λ l. f (h * 2 ^ length vs + l))) ≡ valueAt O (us ++ vs) f
+  -- the next value of one variable is entry 1
+  pub next-of-one : (z : R) (f : ℕ → R) → nextValueAt O (z ∷ []) f ≡ f 1
+
+pub record FoldLaws {ℓ} {R : Type ℓ} (O : Ops R) : Type ℓ where
+  -- a fold by the next weights is the shifted one, plus scale·eq[N-1]·(word of row N-1)
+  pub next : (side : Side) (inner : ℕ) (zs : List R) (scale : R) (f : ℕ → R) (i : ℕ)
+      → foldAt O side Next inner zs scale f i
+      ≡ O .add (foldAt O side Shifted inner zs scale f i)
+      (O .mul (O .mul scale (eqAt O zs (lastRow O zs))) (f (wordOf side inner (2 ^ length zs) i (lastRow O zs))))
+  -- a fold of all variables, on either side, is scale times the value
+  pub whole : (side : Side) (zs : List R) (scale : R) (f : ℕ → R) → foldAt O side Plain 1 zs scale f 0 ≡ O .mul scale (valueAt O zs f)

@@ -42,3 +42,9 @@ pub record Fits (k : ℕ) (point : List ℕ) (scale : Element) (out : List ℕ) 
   pub point-is : Coordinates k point
   pub scale-is : Reduced scale
   pub room : length out ≡ 4 * 2 ^ k
+
+-- high coordinates, then low ones, and a scale, whose table has room in out
+pub record Follows (high low : ℕ) (point : List ℕ) (scale : Element) (out : List ℕ) : Type 0 where
+  pub point-is : Coordinates (high + low) point
+  pub scale-is : Reduced scale
+  pub room : length out ≡ 4 * 2 ^ low

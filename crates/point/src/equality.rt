@@ -13,7 +13,7 @@ ghost use Rattle.table.specs.Table.{tableWords, elements};
 ghost use Rattle.table.specs.Refusals.{verdict};
 ghost use Rattle.point.specs.declared.equality.BitOrder.the-variants.{Msb, Lsb};
 ghost use Rattle.point.specs.Point.{vertexTests, vertexAnswer, tableAnswer, equalityOut, eqBy};
-ghost use Rattle.point.specs.Inner.{Coordinates, entering, Doubled, Doubles, Fits};
+ghost use Rattle.point.specs.Inner.{Coordinates, entering, Doubled, Doubles, Fits, Follows};
 
 // Which end of a point goes with the highest bit of a row number.
 pub enum BitOrder {
@@ -137,6 +137,15 @@ pub fn fill(out: &mut [u32], point: &[u32], k: usize, order: BitOrder, scale: El
         double(out, len, c);
         len = len * 2;
     }
+}
+
+// The table of scale eq of the low coordinates that follow the first high ones.
+pub fn fill_last(out: &mut [u32], point: &[u32], high: usize, low: usize, scale: Element)
+    requires { ⌜ Follows high low (now point) scale (now out) ⌝ }
+    ensures { λ _. ⌜ now (out .exit) ≡ tableWords (2 ^ low) (λ y. field .mul (fromWords scale) (eqAt field (elements (now (point .entry)) high low) y)) ⌝ }
+{
+    let skipped = 4 * high;
+    fill(out, &point[skipped..], low, BitOrder::Msb, scale);
 }
 
 // The coordinate that enters at step i: the one of the lowest bit first.

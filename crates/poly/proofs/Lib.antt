@@ -2,3 +2,5 @@ mod Shifting
 mod Succeeding
 mod Outcomes
 mod Next
+mod ValueOutcomes
+mod NextValue

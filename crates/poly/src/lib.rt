@@ -1,4 +1,6 @@
-// Tables: made from a point.
+// Tables: made from a point, and their values at a point.
+pub mod value;
+
 use field::Element;
 use point::equality::BitOrder;
 use table::Refusal;

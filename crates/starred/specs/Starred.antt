@@ -1,5 +1,5 @@
 -- The starred cases of document 01, "Points and tables worked through": what the definitions give, and what the paper says. z = (2, 3);
--- out holds 7 in each word before a call. Assumes nothing.
+-- f = 1, 4, 9, 16; out and work hold 7 in each word before a call. Assumes nothing.
 use mathlib.Core.Path.{_≡_}
 use Prim.Native.Nat.{ℕ, _-_, _^_}
 use mathlib.Core.List.{List, [], _∷_, _++_}
@@ -7,16 +7,23 @@ use lib.ListN.{length, replicate}
 use Rattle.algebra.specs.Ring.{Ops}
 use Rattle.algebra.specs.Sum.{sumTo}
 use Rattle.algebra.specs.Words.{wordsOf}
+use Rattle.multilinear.specs.declared.Side.{Side}
+use Rattle.multilinear.specs.declared.Side.the-variants.{Prefix, Suffix}
+use Rattle.multilinear.specs.declared.Weight.{Weight}
+use Rattle.multilinear.specs.declared.Weight.the-variants.{Plain, Shifted}
 use Rattle.multilinear.specs.Equality.{eqAt}
 use Rattle.multilinear.specs.Successors.{nextAt}
 use Rattle.field.specs.Field.{p, Ext, field, base, fromWords, toValue}
 use Rattle.field.specs.declared.Element.{Element}
 use Rattle.table.specs.Table.{pointOf}
+use Rattle.table.specs.declared.Evaluation.the-variants as evaluation
 use Rattle.point.specs.declared.equality.BitOrder.the-variants.{Msb}
 use Rattle.point.specs.declared.next.Next.{Next}
 use Rattle.point.specs.declared.next.Next.the-variants as next
 use Rattle.point.specs.Point.{equalityOut, evalNextAnswer}
 use Rattle.poly.specs.Poly.{newOut, nextOut}
+use Rattle.poly.specs.Values.{evalBaseAnswer, evalNextBaseAnswer}
+use Rattle.split_eq.specs.Split.{foldOut}
 
 -- what the definitions give, and the paper's
 pub record Case : Type 1 where
@@ -53,9 +60,17 @@ z = number 2 ++ number 3
 abbrev row : List ℕ
 row = number 5 ++ number 7
 
--- out of n elements before a call
+-- a table of base words
+abbrev f : List ℕ
+f = 1 ∷ 4 ∷ 9 ∷ 16 ∷ []
+
+-- n words of work or out before a call
 abbrev sevens : ℕ → List ℕ
 sevens n = replicate n 7
+
+-- out of a fold of f at the point (a), scale 1
+abbrev folded : Side → Weight → ℕ → List ℕ
+folded side weight a = foldOut side weight f (number a) (element 1 0 0 0) (sevens 12) (sevens 8)
 
 abbrev pub starred : List Case
 starred =
@@ -72,6 +87,16 @@ starred =
     -- Empty point, scale 5: 5; its next table: 1
     ∷ (newOut [] (element 5 0 0 0) (sevens 4) is number 5)
     ∷ (nextOut [] (sevens 4) is number 1)
+    -- f at z: 50
+    ∷ (evalBaseAnswer f z is evaluation.Value (toValue (base 50)))
+    -- Next value of f at z: 13
+    ∷ (evalNextBaseAnswer f z is evaluation.Value (toValue (base 13)))
+    -- Point (2): prefix 17, 28; shifted -9, -16
+    ∷ (folded Prefix Plain 2 is number 17 ++ number 28)
+    ∷ (folded Prefix Shifted 2 is minus 9 ++ minus 16)
+    -- Point (3): suffix 10, 30; shifted -8, -32
+    ∷ (folded Suffix Plain 3 is number 10 ++ number 30)
+    ∷ (folded Suffix Shifted 3 is minus 8 ++ minus 32)
     -- `eval_next` of z and (5, 7): carry 144, done -106, omega 210
     ∷ (evalNextAnswer z row is next.Parts (toValue (base 144)) (toValue (base (p - 106))) (toValue (base 210)))
     -- the next table at (5, 7): 104

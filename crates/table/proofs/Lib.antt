@@ -1,6 +1,9 @@
 pub mod Laws
 pub mod Parts
+pub mod Placed
 pub mod Tests
 pub mod Powers
 pub mod Verdicts
 pub mod Outcomes
+pub mod Gaining
+pub mod Writing

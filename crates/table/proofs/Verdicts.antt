@@ -1,9 +1,9 @@
 -- A list of tests gone through one by one gives its verdict, and what an accepted list says. Assumes nothing.
-use mathlib.Core.Path.{_≡_, refl, _∙_}
+use mathlib.Core.Path.{_≡_, refl, sym, ap, _∙_}
 use mathlib.Core.Bool.{Bool, true, false, cond}
 use Prim.Native.Nat.{ℕ}
 use native.Mathlib.Omega.{arith}
-use mathlib.Core.List.{List, [], _∷_}
+use mathlib.Core.List.{List, [], _∷_, _++_}
 use Rattle.table.specs.declared.Refusal.{Refusal}
 use Rattle.table.specs.declared.Verdict.{Verdict}
 use Rattle.table.specs.declared.Verdict.the-variants.{Accepted, Refused}
@@ -31,6 +31,21 @@ onward-verdict (t ∷ ts) = go (t .holds) (onward-verdict ts)
 
 pub gone-through : (ts : List Test) {v : Verdict} → v ≡ onward Accepted ts → v ≡ verdict ts
 gone-through ts e = e ∙ onward-verdict ts
+
+verdict-more : (ts : List Test) (t : Test) → verdict (ts ++ t ∷ []) ≡ refuseIf (verdict ts) (t .holds) (t .refusal)
+unfolding verdict
+verdict-more [] t = refl
+verdict-more (u ∷ ts) t = go (u .holds) (verdict-more ts t)
+  where
+    go : (b : Bool) → verdict (ts ++ t ∷ []) ≡ refuseIf (verdict ts) (t .holds) (t .refusal)
+        → cond b (Refused (u .refusal)) (verdict (ts ++ t ∷ []))
+        ≡ refuseIf (cond b (Refused (u .refusal)) (verdict ts)) (t .holds) (t .refusal)
+    go true ih = refl
+    go false ih = ih
+
+-- one test more, after the verdict v on the tests ts
+pub one-more : (ts : List Test) (t : Test) {v : Verdict} → v ≡ verdict ts → refuseIf v (t .holds) (t .refusal) ≡ verdict (ts ++ t ∷ [])
+one-more ts t e = ap (λ v. refuseIf v (t .holds) (t .refusal)) e ∙ sym (verdict-more ts t)
 
 -- no test holds
 abbrev pub Clear : List Test → Type 0

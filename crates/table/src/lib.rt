@@ -6,9 +6,9 @@ use field::Element;
 use field::Value;
 ghost use mathlib.Core.Path.{_≡_};
 ghost use mathlib.Core.Bool.{false, _||_, not};
-ghost use Prim.Native.Nat.{ℕ, _+_, _*_, _^_, _≤_, _<_};
+ghost use Prim.Native.Nat.{ℕ, _+_, _-_, _*_, _^_, _≤_, _<_};
 ghost use lib.Dec.{eqb};
-ghost use lib.ListN.{length};
+ghost use lib.ListN.{length, replicate};
 ghost use Rattle.algebra.specs.Words.{unreduced};
 ghost use Rattle.field.specs.Field.{p, Holds};
 ghost use Rattle.table.specs.Table.{getAt, putAt, elementAt, entries};
@@ -146,6 +146,23 @@ pub fn too_many_variables(n: usize) -> bool
     MOST < variables(n)
 }
 
+// The smaller of two numbers, a less what it is above b.
+pub fn smaller(a: usize, b: usize) -> usize
+    ensures { λ r. ⌜ r ≡ a - (a - b) ⌝ }
+{
+    if a < b { a } else { b }
+}
+
+// n - k, or 0 where k is above n.
+pub fn remaining(n: usize, k: usize) -> usize
+    ensures { λ r. ⌜ r ≡ n - k ⌝ }
+{
+    if n < k {
+        return 0;
+    }
+    n - k
+}
+
 // The rows of k coordinates.
 pub fn rows(k: usize) -> usize
     requires { ⌜ k ≤ most ⌝ }
@@ -183,4 +200,13 @@ pub fn put(ws: &mut [u32], i: usize, e: Element)
     ws[b + 1] = e.c[1];
     ws[b + 2] = e.c[2];
     ws[b + 3] = e.c[3];
+}
+
+// Every word becomes 0.
+pub fn clear(ws: &mut [u32])
+    ensures { λ _. ⌜ now (ws .exit) ≡ replicate (length (now (ws .entry))) 0 ⌝ }
+{
+    for i in 0..ws.len() {
+        ws[i] = 0;
+    }
 }

@@ -1,6 +1,7 @@
 // Document 01's worked examples, run through the code: a line for each, its name and the words that the code gives.
 mod elements;
 mod fixed;
+mod folds;
 mod points;
 mod print;
 mod replay;
@@ -9,5 +10,6 @@ fn main() {
     elements::run();
     points::run();
     fixed::run();
+    folds::run();
     replay::run();
 }

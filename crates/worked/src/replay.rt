@@ -2,7 +2,8 @@
 //
 //     operation, words of a, words of b, number, answer, words of out | a .. | b .. | out after the call ..
 //
-// and before the call out holds 7 in each of its words.
+// and before the call out holds 7 in each of its words. From operation 11 on b is two slices and out is work and then out: the number is
+// the words of the first of them and, times 65536, those of work. From 23 on work is the table that a call changes, and b is it before.
 use crate::print;
 use libc::STDIN_FILENO;
 ghost use mathlib.Core.Path.{_≡_};
@@ -188,6 +189,102 @@ fn call(operation: u32, a: &[u32], b: &[u32], number: u32, out: &mut [u32]) -> u
         8 => host::host_new_next_from_point(a, out),
         9 => host::host_eval_eq_batch(a, b, size(number), out),
         10 => host::host_eval_eq_batch_add(a, b, size(number), out),
+        11 => host::values::host_poly_eval_base(a, b, out),
+        12 => host::values::host_poly_eval_ext(a, b, out),
+        13 => host::values::host_poly_eval_next_base(a, b, out),
+        _ => call_parted(operation, a, b, size(number), out),
+    }
+}
+
+// The operations with more slices than a, b and out.
+fn call_parted(operation: u32, a: &[u32], b: &[u32], number: usize, out: &mut [u32]) -> u32 {
+    let second = number % 65536;
+    let lent = number / 65536;
+    if b.len() < second {
+        return 255;
+    }
+    if out.len() < lent {
+        return 255;
+    }
+    if 64 < lent {
+        return 255;
+    }
+    let mut work = work_before(operation, b);
+    call_lent(operation, a, b, second, lent, &mut work, out)
+}
+
+// Work before a call: the table, where the call changes it.
+fn work_before(operation: u32, b: &[u32]) -> [u32; 64]
+    ensures { λ r. ⌜ length r ≡ 64 ⌝ }
+{
+    let mut work = out_room();
+    if 22 < operation {
+        copy(b, b.len(), &mut work);
+    }
+    work
+}
+
+// The call with the first words of work, which stand at the front of out after it.
+fn call_lent(
+    operation: u32,
+    a: &[u32],
+    b: &[u32],
+    second: usize,
+    lent: usize,
+    work: &mut [u32],
+    out: &mut [u32],
+) -> u32
+    requires { ⌜ (second ≤ length (now b)) × ((lent ≤ length (now work)) × (lent ≤ length (now out))) ⌝ }
+{
+    let answer = call_split(
+        operation,
+        a,
+        &b[..second],
+        &b[second..],
+        &mut work[..lent],
+        &mut out[lent..],
+    );
+    copy(work, lent, out);
+    answer
+}
+
+// The first n words of the one at the front of the other, as many as there are.
+fn copy(from: &[u32], n: usize, to: &mut [u32]) {
+    let mut i = 0;
+    while i < n {
+        if from.len() <= i {
+            return;
+        }
+        if to.len() <= i {
+            return;
+        }
+        to[i] = from[i];
+        i += 1;
+    }
+}
+
+fn call_split(
+    operation: u32,
+    a: &[u32],
+    b: &[u32],
+    c: &[u32],
+    work: &mut [u32],
+    out: &mut [u32],
+) -> u32 {
+    match operation {
+        14 => host::values::host_split_eval_base(a, b, c, work, out),
+        15 => host::values::host_split_eval_ext(a, b, c, work, out),
+        16 => host::values::host_split_eval_next_base(a, b, c, work, out),
+        17 => host::values::host_last_scalar(a, b, work, out),
+        18 => host::values::host_accumulate_into(a, b, c, work, out),
+        19 => host::values::host_compress_prefix(a, b, c, work, out),
+        20 => host::values::host_compress_suffix(a, b, c, work, out),
+        21 => host::values::host_compress_prefix_shifted(a, b, c, work, out),
+        22 => host::values::host_compress_suffix_shifted(a, b, c, work, out),
+        23 => host::fixed::host_fix_prefix_var_mut(a, work, out),
+        24 => host::fixed::host_fix_suffix_var_mut(a, work, out),
+        25 => host::fixed::host_fix_prefix_var_mut_monomial(a, work, out),
+        26 => host::fixed::host_sum_prefix_var_mut(work, out),
         _ => 255,
     }
 }

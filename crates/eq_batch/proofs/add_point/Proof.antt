@@ -3,7 +3,7 @@ use mathlib.Core.Path.{_≡_}
 use Prim.Native.Nat.{_-_, _*_, _≤_}
 use native.Mathlib.Omega.{arith}
 use borrow.Author.Needs.{needs}
-use Rattle.eq_batch.specs.Inner.{Gained}
+use Rattle.table.specs.Inner.{Gained}
 use Rattle.eq_batch.proofs.BlockByBlock.{Cut, pointAt, start, joined, edge, room, turn, finish}
 use Rattle.eq_batch.proofs.add_point.Statement.{statement}
 use Rattle.eq_batch.proofs.add_point.Tie as tie

@@ -6,9 +6,9 @@ use borrow.Author.Needs.{needs}
 use Rattle.field.specs.Field.{field}
 use Rattle.multilinear.specs.Beside.{evalBatch}
 use Rattle.table.specs.Table.{elementAt}
+use Rattle.table.specs.Inner.{Gained}
 use Rattle.eq_batch.specs.Batch.{column}
-use Rattle.eq_batch.specs.Inner.{Gained}
-use Rattle.eq_batch.proofs.Gaining.{room-gained}
+use Rattle.eq_batch.proofs.Rooms.{room-gained}
 use Rattle.eq_batch.proofs.Summing.{start, turn}
 use Rattle.eq_batch.proofs.add_points.Statement.{statement}
 use Rattle.eq_batch.proofs.add_points.Tie as tie

@@ -1,5 +1,5 @@
 -- `eq_batch::add_table` meets its contract. Assumes nothing.
-use mathlib.Core.Path.{_≡_, sym, ap}
+use mathlib.Core.Path.{_≡_, refl, ap}
 use Prim.Native.Nat.{_+_, _-_, _*_, _≤_, _<_}
 use native.Mathlib.Nat.{zero-add}
 use native.Mathlib.Omega.{arith}
@@ -7,8 +7,8 @@ use borrow.Author.Needs.{needs}
 use lib.ListN.{length}
 use Rattle.field.specs.Field.{fromWords}
 use Rattle.table.specs.Table.{elementAt}
-use Rattle.eq_batch.specs.Inner.{Gained}
-use Rattle.eq_batch.proofs.Gaining.{none, unchanged, turn}
+use Rattle.table.specs.Inner.{Gained}
+use Rattle.table.proofs.Gaining.{none, unchanged, turn}
 use Rattle.eq_batch.proofs.add_table.Statement.{statement}
 use Rattle.eq_batch.proofs.add_table.Tie as tie
 
@@ -42,8 +42,8 @@ loop-again c =
     let at = begin .args .from + test .before .loop .i in
     let fits : 4 * at + 3 < length (begin .args .out .now) = omega (arith, begin .pre .1 .fits) in (
       omega arith,
-      turn _ _ _ _ _ (test .before .loop .inv .1) fits _ _ (get .get .ensures) (ap fromWords (sym (get2 .get2 .ensures)))
-          (add .add .ensures) (put .put .ensures),
+      turn _ _ _ _ _ (test .before .loop .inv .1) fits _ refl _ _ (ap fromWords (get .get .ensures))
+          (ap fromWords (get2 .get2 .ensures)) (add .add .ensures) (put .put .ensures),
     )
 
 returns : tie.Need-returns Inv-loop μ-loop

@@ -2,7 +2,7 @@
 use mathlib.Core.Bool.{false}
 use borrow.Author.Needs.{needs}
 use Rattle.eq_batch.proofs.Accepted.{Taken, taken}
-use Rattle.eq_batch.proofs.GainedTables.{room-zeros}
+use Rattle.eq_batch.proofs.Rooms.{room-zeros}
 use Rattle.eq_batch.proofs.BatchOutcomes.{no-scalars, refused, becomes}
 use Rattle.eq_batch.proofs.eval_eq_batch.Statement.{statement}
 use Rattle.eq_batch.proofs.eval_eq_batch.Tie as tie

@@ -1,5 +1,5 @@
 -- `kernel::gain_row` meets its contract. Assumes nothing.
-use mathlib.Core.Path.{_≡_}
+use mathlib.Core.Path.{_≡_, refl, ap}
 use Prim.Native.Nat.{_+_, _-_, _*_, _≤_, _<_}
 use native.Mathlib.Omega.{arith}
 use borrow.Author.Needs.{needs}
@@ -7,20 +7,20 @@ use lib.ListN.{length, getD}
 use Rattle.algebra.specs.Ring.{Ops}
 use Rattle.algebra.proofs.Words.{below}
 use Rattle.field.specs.Field.{p, p-pos, field, base, fromWords}
-use Rattle.kernel.specs.Kernel.{Gained}
-use Rattle.kernel.proofs.Gaining.{none, turn}
+use Rattle.table.specs.Inner.{Gained}
+use Rattle.table.proofs.Gaining.{none, turn}
 use Rattle.kernel.proofs.gain_row.Statement.{statement}
 use Rattle.kernel.proofs.gain_row.Tie as tie
 
 abbrev Inv-loop : tie.InvT-loop
-Inv-loop out₀ words weight y₀ y-end out y =
-    (y ≤ length words) × Gained y (λ n. field .mul (fromWords weight) (base (getD words n 0))) out₀ out
+Inv-loop out₀ from words weight y₀ y-end out y =
+    (y ≤ length words) × Gained from y (λ n. field .mul (fromWords weight) (base (getD words n 0))) out₀ out
 
 abbrev μ-loop : tie.MeasureT-loop
-μ-loop out₀ words weight y₀ y-end out y = y-end - y
+μ-loop out₀ from words weight y₀ y-end out y = y-end - y
 
 loop-holds : tie.Need-loop-holds Inv-loop μ-loop
-loop-holds c = (omega arith, none _ _)
+loop-holds c = (omega arith, none _ _ _)
 
 get-requires : tie.Need-get-requires Inv-loop μ-loop
 get-requires c κs =
@@ -46,9 +46,11 @@ loop-again c =
     let get = step .before .before in
     let test = get .before .before in
     let begin = test .before .before .before .before in
-    let fits : 4 * test .before .loop .y + 3 < length (begin .args .out .now) = omega (arith, test .loop-test .taken, begin .pre .0 .room) in (
+    let at = test .before .loop in
+    let fits : 4 * (begin .args .from + at .y) + 3 < length (begin .args .out .now) = omega (arith, test .loop-test .taken, begin .pre .0 .room) in (
       omega (arith, test .loop-test .taken),
-      turn _ _ _ _ (test .before .loop .inv .1) fits _ (get .get .ensures) (step .step .ensures) (put .put .ensures),
+      turn _ _ _ _ _ (at .inv .1) fits _ refl _ _ (ap fromWords (get .get .ensures)) refl (step .step .ensures)
+          (put .put .ensures),
     )
 
 returns : tie.Need-returns Inv-loop μ-loop
@@ -65,10 +67,18 @@ gain-row-spec =
     Inv-loop
     μ-loop
     loop-holds
+    (λ c.
+    let test = c .before in
+    let begin = test .before .before .before .before in
+    omega (arith, test .loop-test .taken, begin .pre .0 .room))
     get-requires
     (search needs)
     (search needs)
     step-requires
+    (λ c.
+    let test = c .before .before .before .before .before in
+    let begin = test .before .before .before .before in
+    omega (arith, test .loop-test .taken, begin .pre .0 .room))
     put-requires
     (search needs)
     (search needs)

@@ -1,24 +1,25 @@
 -- `kernel::gain_rows` meets its contract. Assumes nothing.
-use mathlib.Core.Path.{_≡_}
+use mathlib.Core.Path.{_≡_, refl, ap}
 use Prim.Native.Nat.{_+_, _-_, _*_, _≤_, _<_}
 use native.Mathlib.Omega.{arith}
 use borrow.Author.Needs.{needs}
 use lib.ListN.{length}
 use Rattle.algebra.proofs.Words.{below}
-use Rattle.field.specs.Field.{p, p-pos}
-use Rattle.kernel.specs.Kernel.{Gained, fourRows}
-use Rattle.kernel.proofs.Gaining.{none, turn}
+use Rattle.field.specs.Field.{p, p-pos, fromWords}
+use Rattle.table.specs.Inner.{Gained}
+use Rattle.table.proofs.Gaining.{none, turn}
+use Rattle.kernel.specs.Kernel.{fourRows}
 use Rattle.kernel.proofs.gain_rows.Statement.{statement}
 use Rattle.kernel.proofs.gain_rows.Tie as tie
 
 abbrev Inv-loop : tie.InvT-loop
-Inv-loop out₀ words n w0 w1 w2 w3 y₀ out y = (y ≤ n) × Gained y (fourRows w0 w1 w2 w3 n words) out₀ out
+Inv-loop out₀ words n w0 w1 w2 w3 y₀ out y = (y ≤ n) × Gained 0 y (fourRows w0 w1 w2 w3 n words) out₀ out
 
 abbrev μ-loop : tie.MeasureT-loop
 μ-loop out₀ words n w0 w1 w2 w3 y₀ out y = n - y
 
 loop-holds : tie.Need-loop-holds Inv-loop μ-loop
-loop-holds c = (omega arith, none _ _)
+loop-holds c = (omega arith, none 0 _ _)
 
 get-requires : tie.Need-get-requires Inv-loop μ-loop
 get-requires c κs =
@@ -51,9 +52,11 @@ loop-again c =
     let get = step .before in
     let test = get .before .before .before .before .before .before in
     let begin = test .before .before .before .before in
-    let fits : 4 * test .before .loop .y + 3 < length (begin .args .out .now) = omega (arith, test .loop-test .taken, begin .pre .0 .room) in (
+    let at = test .before .loop in
+    let fits : 4 * (0 + at .y) + 3 < length (begin .args .out .now) = omega (arith, test .loop-test .taken, begin .pre .0 .room) in (
       omega (arith, test .loop-test .taken),
-      turn _ _ _ _ (test .before .loop .inv .1) fits _ (get .get .ensures) (step .step-four .ensures) (put .put .ensures),
+      turn 0 _ _ _ _ (at .inv .1) fits _ (omega arith) _ _ (ap fromWords (get .get .ensures)) refl (step .step-four .ensures)
+          (put .put .ensures),
     )
 
 returns : tie.Need-returns Inv-loop μ-loop

@@ -2,17 +2,9 @@
 //! refused for two reasons.
 
 use crate::Operation::*;
-use crate::{Call, Operation, Random, UNREDUCED};
+use crate::{Call, Operation, Random, Slice, UNREDUCED, before};
 use Damage::*;
 use Place::*;
-use Slice::*;
-
-#[derive(Clone, Copy)]
-pub enum Slice {
-    A,
-    B,
-    Out,
-}
 
 #[derive(Clone, Copy)]
 pub enum Place {
@@ -32,15 +24,17 @@ pub enum Damage {
 }
 
 impl Damage {
-    /// The changes of a call that fits k and w.
-    pub fn all(operation: Operation, k: usize, w: usize) -> Vec<Self> {
-        let mut all: Vec<_> = numbers(operation, k).into_iter().map(Number).collect();
-        let [_, b, _] = operation.parameters();
-        for (slice, fits) in [A, B, Out].into_iter().zip(operation.lengths(k, w)) {
-            if matches!(slice, B) && b.is_empty() {
-                continue;
-            }
-            all.extend(lengths(fits).into_iter().map(|words| Length(slice, words)));
+    /// The changes of a call that fits n and m.
+    pub fn all(operation: Operation, n: usize, m: usize) -> Vec<Self> {
+        let mut all: Vec<_> = numbers(operation, n).into_iter().map(Number).collect();
+        let named = operation.slices().map(|name| !name.is_empty());
+        let fits = operation.lengths(n, m);
+        for slice in Slice::ALL
+            .into_iter()
+            .filter(|&slice| named[slice as usize])
+        {
+            let lengths = lengths(fits[slice as usize]).into_iter();
+            all.extend(lengths.map(|words| Length(slice, words)));
             for word in UNREDUCED {
                 all.extend([First, Any, Last].map(|place| Word(slice, place, word)));
             }
@@ -64,15 +58,15 @@ fn lengths(fits: usize) -> Vec<usize> {
 }
 
 /// Numbers at the limits and past them, some with low bits that would fit.
-fn numbers(operation: Operation, k: usize) -> Vec<u64> {
+fn numbers(operation: Operation, n: usize) -> Vec<u64> {
     let mut numbers = match operation {
         EqualityAtVertex => {
-            let rows = 1 << k;
+            let rows = 1 << n;
             vec![0, rows - 1, rows, rows + 1, 2 * rows]
         }
         EvalSelect => return UNREDUCED.map(u64::from).to_vec(),
         EvalEqBatch | EvalEqBatchAdd => {
-            let n = k as u64;
+            let n = n as u64;
             let other = vec![n + 1, n.saturating_sub(1), n + 64, n + (1 << 32)];
             [other, vec![20, 21, 22, 64]].concat()
         }
@@ -87,10 +81,7 @@ impl Call {
         match damage {
             Length(slice, length) => {
                 let more = length.saturating_sub(self.slice(slice).len());
-                let words = match slice {
-                    Out => self.operation.before(more, random),
-                    _ => random.elements(more),
-                };
+                let words = before(self.operation, slice, more, random);
                 let slice = self.slice(slice);
                 slice.truncate(length);
                 slice.extend(words);
@@ -108,14 +99,6 @@ impl Call {
                 }
             }
             Number(number) => self.number = number,
-        }
-    }
-
-    fn slice(&mut self, slice: Slice) -> &mut Vec<u32> {
-        match slice {
-            A => &mut self.a,
-            B => &mut self.b,
-            Out => &mut self.out,
         }
     }
 }

@@ -1,127 +1,112 @@
-//! Calls of the operations on points: input that fits, damage to it, and what a
-//! call must answer and leave, by document 01 and by the unchanged Rust crate.
+//! Calls of the operations on points and tables: input that fits, damage to it,
+//! and what a call must answer and leave, by document 01 and by the unchanged
+//! Rust crate.
 
 mod damage;
 mod expected;
+mod operation;
 mod random;
+mod refusals;
+mod rust;
 
 use p3_field::{Base, Element};
 
-pub use damage::Damage;
+pub use damage::{Damage, Place};
 pub use expected::{Outcome, expect};
+pub use operation::{Operation, Slice};
 pub use random::{LIMITS, Random, UNREDUCED};
 
 use Operation::*;
 
 pub const P: u32 = Base::MODULUS;
 
-/// The operations, numbered from 1 as in the sample.
-#[derive(Clone, Copy, PartialEq, Eq)]
-pub enum Operation {
-    EqualityAtVertex = 1,
-    EqualityWeightsMsb,
-    EqualityWeightsLsb,
-    EvalEq,
-    EvalNext,
-    EvalSelect,
-    NewFromPoint,
-    NewNextFromPoint,
-    EvalEqBatch,
-    EvalEqBatchAdd,
-}
-
-impl Operation {
-    pub const ALL: [Self; 10] = [
-        EqualityAtVertex,
-        EqualityWeightsMsb,
-        EqualityWeightsLsb,
-        EvalEq,
-        EvalNext,
-        EvalSelect,
-        NewFromPoint,
-        NewNextFromPoint,
-        EvalEqBatch,
-        EvalEqBatchAdd,
-    ];
-
-    /// The C name.
-    pub fn name(self) -> &'static str {
-        match self {
-            EqualityAtVertex => "host_equality_at_vertex",
-            EqualityWeightsMsb => "host_equality_weights_msb",
-            EqualityWeightsLsb => "host_equality_weights_lsb",
-            EvalEq => "host_eval_eq",
-            EvalNext => "host_eval_next",
-            EvalSelect => "host_eval_select",
-            NewFromPoint => "host_new_from_point",
-            NewNextFromPoint => "host_new_next_from_point",
-            EvalEqBatch => "host_eval_eq_batch",
-            EvalEqBatchAdd => "host_eval_eq_batch_add",
-        }
-    }
-
-    /// The names of a, b and the number, empty where there is none.
-    pub fn parameters(self) -> [&'static str; 3] {
-        match self {
-            EqualityAtVertex => ["point", "", "vertex"],
-            EqualityWeightsMsb | EqualityWeightsLsb | NewNextFromPoint => ["point", "", ""],
-            EvalEq | EvalNext => ["point", "row", ""],
-            EvalSelect => ["point", "", "var"],
-            NewFromPoint => ["point", "scale", ""],
-            EvalEqBatch | EvalEqBatchAdd => ["points", "scalars", "n"],
-        }
-    }
-
-    /// The words of a, b and out that fit k coordinates, and w points in a batch.
-    pub fn lengths(self, k: usize, w: usize) -> [usize; 3] {
-        match self {
-            EqualityAtVertex | EvalSelect => [4 * k, 0, 4],
-            EqualityWeightsMsb | EqualityWeightsLsb | NewNextFromPoint => [4 * k, 0, 4 << k],
-            EvalEq => [4 * k, 4 * k, 4],
-            EvalNext => [4 * k, 4 * k, 12],
-            NewFromPoint => [4 * k, 4, 4 << k],
-            EvalEqBatch | EvalEqBatchAdd => [4 * k * w, 4 * w, 4 << k],
-        }
-    }
-
-    /// Words that may stand in out before a call that is accepted.
-    fn before(self, count: usize, random: &mut Random) -> Vec<u32> {
-        match self {
-            EvalEqBatchAdd => random.elements(count),
-            _ => random.stale(count),
-        }
-    }
-}
-
 #[derive(Clone)]
 pub struct Call {
     pub operation: Operation,
-    /// The first slice that is read.
-    pub a: Vec<u32>,
-    /// The second one, empty where there is none.
-    pub b: Vec<u32>,
+    /// The slices before the call, empty where there is none.
+    pub slices: [Vec<u32>; 5],
     /// The vertex, var or n, 0 where there is none.
     pub number: u64,
-    /// Out before the call.
-    pub out: Vec<u32>,
 }
 
 impl Call {
     /// Random input with these counts; accepted where they are within limits.
-    pub fn fitting(operation: Operation, k: usize, w: usize, random: &mut Random) -> Self {
-        let [a, b, out] = operation.lengths(k, w);
+    pub fn fitting(operation: Operation, n: usize, m: usize, random: &mut Random) -> Self {
+        let lengths = operation.lengths(n, m);
         Self {
             operation,
-            a: random.elements(a),
-            b: random.elements(b),
+            slices: Slice::ALL
+                .map(|slice| before(operation, slice, lengths[slice as usize], random)),
             number: match operation {
-                EqualityAtVertex => random.below(1 << k) as u64,
+                EqualityAtVertex => random.below(1 << n) as u64,
                 EvalSelect => random.word() as u64,
-                EvalEqBatch | EvalEqBatchAdd => k as u64,
+                EvalEqBatch | EvalEqBatchAdd => n as u64,
                 _ => 0,
             },
-            out: operation.before(out, random),
         }
+    }
+
+    pub fn slice(&mut self, slice: Slice) -> &mut Vec<u32> {
+        &mut self.slices[slice as usize]
+    }
+
+    /// The elements that are read, a base word as one of them. Out is left out.
+    pub fn places(&self) -> usize {
+        let [a, b, c, work, _] = self.slices.each_ref().map(Vec::len);
+        let table = match self.operation.fixes() {
+            true => work / 4,
+            false => 0,
+        };
+        a / width(self.operation, Slice::A) + b / 4 + c / 4 + table
+    }
+
+    /// Puts an element into each of those places; a base word takes its first word.
+    pub fn fill(&mut self, elements: &[[u32; 4]]) {
+        let mut elements = elements.iter();
+        for slice in [Slice::A, Slice::B, Slice::C, Slice::Work] {
+            let width = width(self.operation, slice);
+            if self.operation.reads(slice) {
+                for place in self.slice(slice).chunks_exact_mut(width) {
+                    place.copy_from_slice(&elements.next().unwrap()[..width]);
+                }
+            }
+        }
+    }
+
+    /// Puts the largest word in every place of the table, or of all that is read.
+    pub fn enlarge(&mut self, all: bool) {
+        for slice in Slice::ALL {
+            let table = self.operation.slices()[slice as usize] == "table";
+            if self.operation.reads(slice) && (table || all) {
+                self.slice(slice).fill(P - 1);
+            }
+        }
+    }
+
+    /// Puts this element in place of each scale, given scale or r.
+    pub fn multiply_by(&mut self, element: [u32; 4]) {
+        for (slice, name) in self.slices.iter_mut().zip(self.operation.slices()) {
+            if ["scale", "given", "r"].contains(&name) {
+                slice.copy_from_slice(&element);
+            }
+        }
+    }
+}
+
+/// Words that may stand in a slice before a call that is accepted.
+fn before(operation: Operation, slice: Slice, count: usize, random: &mut Random) -> Vec<u32> {
+    match operation.reads(slice) {
+        false => random.stale(count),
+        true if width(operation, slice) == 1 => random.words(count),
+        true => random.elements(count),
+    }
+}
+
+/// The words of a place in a slice that is read.
+fn width(operation: Operation, slice: Slice) -> usize {
+    match slice == Slice::A && operation.base_table() {
+        true => 1,
+        false => 4,
     }
 }
 

@@ -10,7 +10,7 @@ pub fn compare(run: &mut Run) {
         operation(run, name, |calls| {
             for n in 0..=3 {
                 for w in 0..=3 {
-                    calls.exhaustive(n, w);
+                    calls.exhaustive(n, w, calls.run.count(400_000, 10_000_000));
                     calls.damaged(n, w);
                 }
             }

@@ -35,7 +35,7 @@ impl<const N: usize> Operation<'_, N> {
             .collect();
         inputs.extend(self.times.map(|times| ("times", Number(times))));
         inputs.push(("out before", Words(out)));
-        run.same(&inputs, &expected, &got);
+        run.same(&inputs, &[expected], &got);
     }
 
     /// The same, the operands' words being given one after the other.

@@ -4,10 +4,13 @@
 
 mod batch;
 mod elements;
+mod fixing;
+mod folds;
 mod operation;
 mod points;
 mod run;
 mod tables;
+mod values;
 
 use std::time::{SystemTime, UNIX_EPOCH};
 use std::{env, process};
@@ -34,6 +37,9 @@ fn main() {
     points::compare(&mut run);
     tables::compare(&mut run);
     batch::compare(&mut run);
+    values::compare(&mut run);
+    folds::compare(&mut run);
+    fixing::compare(&mut run);
     run.finish();
 }
 

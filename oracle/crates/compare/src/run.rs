@@ -48,22 +48,27 @@ impl Run {
         self.cases = 0;
         cases(self);
         let seconds = started.elapsed().as_secs_f64();
-        println!("{name:<28}{:>10} cases{seconds:>8.1} s", self.cases);
+        println!("{name:<34}{:>10} cases{seconds:>8.1} s", self.cases);
         self.total += self.cases;
     }
 
-    /// One case. A difference is printed with its input and ends the run.
+    /// One case. A difference from one of those expected is printed with its
+    /// input and ends the run.
     pub fn same<const N: usize>(
         &mut self,
         inputs: &[(&str, Input)],
-        expected: &Outcome<N>,
+        expected: &[Outcome<N>],
         got: &Outcome<N>,
     ) {
         self.cases += 1;
-        if expected == got {
+        let Some(arm) = expected.iter().position(|expected| expected != got) else {
             return;
-        }
+        };
+        let (arms, expected) = (expected.len(), &expected[arm]);
         println!("{}: case {} differs", self.operation, self.cases);
+        if arms > 1 {
+            println!("  from arm {} of the Rust's {arms}", arm + 1);
+        }
         for (name, input) in inputs {
             println!("  {name} = {input}");
         }

@@ -14,7 +14,7 @@ pub fn compare(run: &mut Run) {
     ] {
         operation(run, name, |calls| {
             for k in 0..=3 {
-                calls.exhaustive(k, 1);
+                calls.exhaustive(k, 1, calls.run.count(400_000, 10_000_000));
                 calls.damaged(k, 1);
             }
             for k in 0..=10 {

@@ -52,4 +52,21 @@ operations! {
     host_new_next_from_point = new_next_from_point [point] () [out];
     host_eval_eq_batch = eval_eq_batch [points, scalars] (n: u64) [out];
     host_eval_eq_batch_add = eval_eq_batch_add [points, scalars] (n: u64) [out];
+
+    host_poly_eval_base = poly_eval_base [table, point] () [out];
+    host_poly_eval_ext = poly_eval_ext [table, point] () [out];
+    host_poly_eval_next_base = poly_eval_next_base [table, point] () [out];
+    host_split_eval_base = split_eval_base [table, point, scale] () [work, out];
+    host_split_eval_ext = split_eval_ext [table, point, scale] () [work, out];
+    host_split_eval_next_base = split_eval_next_base [table, point, scale] () [work, out];
+    host_last_scalar = last_scalar [point, scale] () [work, out];
+    host_accumulate_into = accumulate_into [point, scale, given] () [work, out];
+    host_compress_prefix = compress_prefix [table, point, scale] () [work, out];
+    host_compress_suffix = compress_suffix [table, point, scale] () [work, out];
+    host_compress_prefix_shifted = compress_prefix_shifted [table, point, scale] () [work, out];
+    host_compress_suffix_shifted = compress_suffix_shifted [table, point, scale] () [work, out];
+    host_fix_prefix_var_mut = fix_prefix_var_mut [r] () [table, out];
+    host_fix_suffix_var_mut = fix_suffix_var_mut [r] () [table, out];
+    host_fix_prefix_var_mut_monomial = fix_prefix_var_mut_monomial [r] () [table, out];
+    host_sum_prefix_var_mut = sum_prefix_var_mut [] () [table, out];
 }

@@ -1,23 +1,37 @@
 //! Stands in for p3-maybe-rayon without its `parallel` feature: one thread, and
-//! the parallel iterators are the plain ones.
+//! the parallel iterators are the plain ones. A switch of our own sends the
+//! files through their split arms all the same.
 
 #![no_std]
 
 extern crate alloc;
 
+use core::sync::atomic::{AtomicBool, Ordering::Relaxed};
+
+static SPLIT: AtomicBool = AtomicBool::new(false);
+
+/// From now on every loop that can be split is, each item a task of its own, or
+/// none is, as at the start.
+pub fn set_split(split: bool) {
+    SPLIT.store(split, Relaxed);
+}
+
 pub mod prelude {
     use alloc::vec::Vec;
     use core::slice::{Chunks, ChunksExactMut, ChunksMut, Iter, IterMut};
+
+    use crate::{Relaxed, SPLIT};
 
     #[inline]
     pub const fn current_num_threads() -> usize {
         1
     }
 
-    /// Whether a loop is worth splitting among threads: with one thread, never.
+    /// Whether a loop is worth splitting among threads: with one thread, only
+    /// where the switch says so.
     #[inline]
-    pub const fn should_split(_len: usize, _item_bytes: usize) -> bool {
-        false
+    pub fn should_split(_len: usize, _item_bytes: usize) -> bool {
+        SPLIT.load(Relaxed)
     }
 
     /// The fewest items of a task: with one thread, all of them.
@@ -81,15 +95,17 @@ pub mod prelude {
             self.map(body).collect()
         }
 
-        /// With one thread there is one part, so nothing is left to reduce.
+        /// The files call this in their split arms alone.
         #[inline]
         fn par_fold_reduce<A>(
             self,
             start: impl Fn() -> A,
-            fold: impl FnMut(A, Self::Item) -> A,
-            _reduce: impl Fn(A, A) -> A,
+            mut fold: impl FnMut(A, Self::Item) -> A,
+            reduce: impl Fn(A, A) -> A,
         ) -> A {
-            self.fold(start(), fold)
+            self.map(|item| fold(start(), item))
+                .reduce(reduce)
+                .unwrap_or_else(start)
         }
     }
 

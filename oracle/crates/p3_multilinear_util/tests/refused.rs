@@ -1,9 +1,10 @@
 //! What the unchanged Rust files do with input that document 01 refuses, as
-//! docs/DIFFERENCES.md lists it. Some panics are debug assertions, so that a
-//! release build goes on.
+//! docs/DIFFERENCES.md lists it: points, tables from a point and batches. Some
+//! panics are debug assertions, so that a release build goes on.
 
-use std::panic::{AssertUnwindSafe, catch_unwind};
+mod common;
 
+use common::{UNEQUAL, all, one, panics, point, run};
 use p3_field::{Base, Element};
 use p3_matrix::dense::RowMajorMatrixView;
 use p3_multilinear_util::eq_batch::eval_eq_batch;
@@ -11,34 +12,6 @@ use p3_multilinear_util::point::Point;
 use p3_multilinear_util::poly::Poly;
 
 const P: u32 = Base::MODULUS;
-
-/// The message of an assertion that says no more.
-const UNEQUAL: &str = "assertion `left == right` failed";
-
-fn one(number: u32) -> Element {
-    Base::new(number).into()
-}
-
-fn all(numbers: &[u32]) -> Vec<Element> {
-    numbers.iter().map(|&number| one(number)).collect()
-}
-
-fn point(numbers: &[u32]) -> Point<Element> {
-    Point::new(all(numbers))
-}
-
-/// What the call gives, or the message with which it panics.
-fn run<T>(call: impl FnOnce() -> T) -> Result<T, String> {
-    catch_unwind(AssertUnwindSafe(call)).map_err(|payload| match payload.downcast::<String>() {
-        Ok(message) => *message,
-        Err(payload) => payload.downcast::<&str>().unwrap().to_string(),
-    })
-}
-
-fn panics<T>(message: &str, call: impl FnOnce() -> T) {
-    let got = run(call).err().expect("no panic");
-    assert!(got.contains(message), "{got}");
-}
 
 #[test]
 fn words_not_below_p_are_reduced() {

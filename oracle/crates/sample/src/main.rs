@@ -3,22 +3,25 @@
 //!
 //!     sample FILE
 
+mod pick;
+
+use std::collections::BTreeSet;
 use std::{env, fs, process};
 
 use calls::Operation::*;
-use calls::{Call, Damage, Operation, Random};
+use calls::{Call, Operation, Random, Slice};
 
-/// The word in every place of out before a call.
+/// The word in every place of out, and of work, before a call.
 const BEFORE: u32 = 7;
 
-/// The most words of out: those of four variables.
+/// The most words of work and out together.
 const MOST_OUT: usize = 64;
 
-/// The most words that a damaged call reads: 21 coordinates and a few more.
-const MOST_READ: usize = 100;
+/// A record of more words stands once for the operations with its slices.
+const LONG: usize = 85;
 
-/// The file has fewer bytes than this.
-const BYTES: usize = 60_000;
+/// The most words of the list: those that the replay holds.
+const WORDS: usize = 7281;
 
 fn main() {
     let Some(file) = env::args().nth(1) else {
@@ -26,126 +29,75 @@ fn main() {
         process::exit(2);
     };
     let mut random = Random(1);
+    let mut long = BTreeSet::new();
     let mut text = String::new();
     let (mut records, mut refused) = (0, 0);
     for operation in Operation::ALL {
-        for call in [
-            whole(operation, &mut random),
-            damaged(operation, &mut random),
-        ]
-        .concat()
-        {
-            let (line, answer) = record(&call);
-            text += &line;
+        let whole = pick::whole(operation, &mut random);
+        for call in [whole, pick::damaged(operation, &mut random)].concat() {
+            let (words, answer) = record(&call);
+            if words.len() > LONG && !long.insert((operation.slices(), answer)) {
+                continue;
+            }
+            let words: Vec<_> = words.iter().map(|word| format!("{word:08x}")).collect();
+            text += &(words.join(" ") + "\n");
             records += 1;
             refused += (answer != 0) as u32;
         }
     }
-    assert!(text.len() < BYTES, "{} bytes", text.len());
+    let bytes = text.len();
+    assert!(bytes <= 9 * WORDS, "{bytes} bytes");
     if let Err(error) = fs::write(&file, &text) {
         eprintln!("{file}: {error}");
         process::exit(1);
     }
-    let bytes = text.len();
     println!("{records} records, {refused} of them refused, {bytes} bytes");
 }
 
-/// A line of the file, and the answer.
-fn record(call: &Call) -> (String, u32) {
+/// The words of a record, and the answer.
+fn record(call: &Call) -> (Vec<u32>, u32) {
     let expected = call.expected();
-    let [out] = &expected.lent;
+    assert!(expected.iter().all(|other| *other == expected[0]));
+    let answer = expected[0].answer;
+    let out = expected[0].lent.concat();
+    let ([a, second, ..], b) = (&call.slices, joined(call));
+    let number = match on_points(call.operation) {
+        true => u32::try_from(call.number).unwrap(),
+        false => {
+            // Where b's second part starts, and where out does.
+            let work = &call.slices[Slice::Work as usize];
+            let first = if call.operation.fixes() { work } else { second };
+            (work.len() << 16 | first.len()) as u32
+        }
+    };
+    let lengths = [a.len(), b.len(), out.len()].map(|length| length as u32);
     let head = [
         call.operation as u32,
-        call.a.len() as u32,
-        call.b.len() as u32,
-        u32::try_from(call.number).unwrap(),
-        expected.answer,
-        out.len() as u32,
-    ];
-    let words: Vec<_> = [&head, &call.a[..], &call.b, out]
-        .concat()
-        .iter()
-        .map(|word| format!("{word:08x}"))
-        .collect();
-    (words.join(" ") + "\n", expected.answer)
-}
-
-/// Small numbers, random elements, and batches at their limits.
-fn whole(operation: Operation, random: &mut Random) -> Vec<Call> {
-    let mut calls: Vec<_> = (0..=3).map(|k| small(operation, k)).collect();
-    let mut fitting = |k, w| ready(Call::fitting(operation, k, w, random));
-    calls.extend([(1, 2), (2, 1), (2, 3), (3, 1), (4, 2)].map(|(k, w)| fitting(k, w)));
-    if matches!(operation, EvalEqBatch | EvalEqBatchAdd) {
-        // The most points, and one more; none, which passes whatever the rest is.
-        calls.extend([64, 65].map(|w| fitting(0, w)));
-        calls.push(Call {
-            a: vec![u32::MAX; 3],
-            number: 99,
-            ..fitting(2, 0)
-        });
-    }
-    calls
-}
-
-/// Small numbers; for k = 2 they are document 01's.
-fn small(operation: Operation, k: usize) -> Call {
-    let point = &[2, 3, 5][..k];
-    let (a, b, number): (&[u32], &[u32], u64) = match operation {
-        EqualityAtVertex => (point, &[], (1 << k) - 1),
-        EqualityWeightsMsb | EqualityWeightsLsb | NewNextFromPoint => (point, &[], 0),
-        EvalEq | EvalNext => (point, &[5, 7, 11][..k], 0),
-        EvalSelect => (point, &[], 3),
-        NewFromPoint => (point, &[5], 0),
-        EvalEqBatch | EvalEqBatchAdd => (&[2, 0, 3, 1, 5, 0][..2 * k], &[1, 10], k as u64),
-    };
-    let elements = |numbers: &[u32]| numbers.iter().flat_map(|&word| [word, 0, 0, 0]).collect();
-    let [_, _, out] = operation.lengths(k, 2);
-    Call {
-        operation,
-        a: elements(a),
-        b: elements(b),
+        lengths[0],
+        lengths[1],
         number,
-        out: vec![BEFORE; out],
+        answer,
+        lengths[2],
+    ];
+    ([&head, &a[..], &b, &out].concat(), answer)
+}
+
+/// The second and the third slice together; of fixing, the table before the call.
+fn joined(call: &Call) -> Vec<u32> {
+    let [_, b, c, table, _] = &call.slices;
+    match call.operation.fixes() {
+        true => table.clone(),
+        false => [&b[..], c].concat(),
     }
 }
 
-/// For each refusal a call that meets it first, and the fewest others; and one
-/// that meets the first and the last.
-fn damaged(operation: Operation, random: &mut Random) -> Vec<Call> {
-    let (k, w) = (2, 2);
-    let changes = Damage::all(operation, k, w);
-    let mut candidates = vec![];
-    for &first in &changes {
-        for &second in &changes {
-            let mut call = Call::fitting(operation, k, w, random);
-            call.damage(first, random);
-            call.damage(second, random);
-            let read = call.a.len() + call.b.len();
-            if call.number < 1 << 32 && read <= MOST_READ && call.out.len() <= MOST_OUT {
-                candidates.push(ready(call));
-            }
-        }
-    }
-    let mut pick = |wanted: &dyn Fn(&[usize]) -> bool| {
-        let mut wanted: Vec<_> = candidates
-            .iter()
-            .filter(|call| wanted(&call.holding()))
-            .collect();
-        let fewest = wanted.iter().map(|call| call.holding().len()).min();
-        wanted.retain(|call| Some(call.holding().len()) == fewest);
-        wanted[random.below(wanted.len() as u32) as usize].clone()
-    };
-    let last = small(operation, k).refusals().len() - 1;
-    let mut calls: Vec<_> = (0..=last)
-        .map(|i| pick(&|holding| holding.first() == Some(&i)))
-        .collect();
-    calls.push(pick(&|holding| {
-        holding.starts_with(&[0]) && holding.ends_with(&[last])
-    }));
-    calls
+/// The operations on points, whose records give a number of their own.
+fn on_points(operation: Operation) -> bool {
+    operation as u32 <= EvalEqBatchAdd as u32
 }
 
-fn ready(mut call: Call) -> Call {
-    call.out.fill(BEFORE);
-    call
+/// The words that a record has beside its head.
+fn size(call: &Call) -> usize {
+    let [a, _, _, work, out] = &call.slices;
+    a.len() + joined(call).len() + work.len() + out.len()
 }

@@ -1,0 +1,31 @@
+-- The room of a batch's sum: in words of zeros, after a gain, and past what was gained. Assumes nothing.
+use mathlib.Core.Path.{_≡_, ap}
+use Prim.Native.Nat.{ℕ, _+_, _*_, _≤_}
+use native.Mathlib.Nat.{zero-add}
+use native.Mathlib.Omega.{arith}
+use mathlib.Core.List.{List}
+use lib.ListN.{length, replicate, length-replicate}
+use Rattle.field.specs.Field.{Ext}
+use Rattle.field.proofs.Laws.{reduced}
+use Rattle.table.specs.Inner.{Gained}
+use Rattle.table.proofs.Parts.{get-zeros}
+use Rattle.eq_batch.specs.Inner.{Room}
+
+-- words of zeros have room
+pub room-zeros : (m n : ℕ) → n ≡ 4 * m → {ws : List ℕ} → ws ≡ replicate n 0 → Room 0 m ws
+room-zeros m n l e =
+    record {
+      fits = omega (arith, ap length e, length-replicate {A = ℕ} n 0);
+      reduced = λ y h. rw (e, get-zeros n (0 + y)) (reduced _);
+    }
+
+-- the room is there again, for what was gained and for what was not
+pub room-gained : {n : ℕ} {g : ℕ → Ext} {ws w : List ℕ} → Room 0 n ws → Gained 0 n g ws w → Room 0 n w
+room-gained r d = record { fits = omega (arith, r .fits, d .len); reduced = λ y h. rw (d .gained y h) (reduced _) }
+
+pub room-beyond : (m n k : ℕ) {g : ℕ → Ext} {ws w : List ℕ} → Room 0 k ws → Gained 0 m g ws w → m + n ≤ k → Room m n w
+room-beyond m n k {g} {ws} r d l =
+    record {
+      fits = omega (arith, r .fits, d .len);
+      reduced = λ y h. rw (d .after (m + y) (omega arith)) (rw zero-add at (r .reduced (m + y) (omega arith)));
+    }

@@ -1,0 +1,78 @@
+-- `split_eq::value::eval_base` meets its contract: by the tests' answer. Assumes nothing.
+use mathlib.Core.Path.{_≡_, sym, _∙_}
+use Prim.Native.Nat.{_^_, _<_}
+use native.Mathlib.Omega.{arith}
+use borrow.Author.Needs.{needs}
+use lib.ListN.{length}
+use Rattle.table.specs.Table.{entries}
+use Rattle.weigh.specs.Weigh.{Whole}
+use Rattle.split_eq.specs.Split.{baseVerdict, baseWork, evalBaseAnswer}
+use Rattle.split_eq.proofs.Tested.{Fillable, base-tested}
+use Rattle.split_eq.proofs.Answers.{base-answer, refused, answered}
+use Rattle.split_eq.proofs.value.eval_base.Statement.{statement}
+use Rattle.split_eq.proofs.value.eval_base.Tie as tie
+
+fits : (known : tie.After-slice-known) → length (known .before .before .before .args .table .now) < 2 ^ 64
+fits known = omega arith
+
+module _ (test : tie.After-test-value) where
+  abbrev known : tie.After-slice-known
+  known = test .before .before .before .before .before .before
+
+  abbrev begin : tie.Start
+  begin = known .before .before .before
+
+  tested : test .test-value .result
+      ≡ baseVerdict (begin .args .table .now) (begin .args .point .now) (begin .args .scale) (begin .args .work .now)
+  tested =
+      let split = test .before .before in
+      base-answer _ _ _ _ (test .test-value .ensures) (split .either .ensures) (split .before .before .before .splits .ensures)
+      (split .before .splits2 .ensures)
+
+module _ (told : tie.After-enum-told) where
+  abbrev from : tie.Start
+  from = begin (told .before .before)
+
+  accepted : Fillable (from .args .point .now) (from .args .scale) (from .args .work .now)
+      × Whole (entries (from .args .point .now)) (from .args .table .now)
+  accepted =
+      base-tested _ _ _ _ (fits (known (told .before .before))) (sym (told .enum-told .given .1) ∙ tested (told .before .before))
+
+fill-requires : tie.Need-fill-requires
+fill-requires c κs = accepted (c .before) .0
+
+scaled-value-requires : tie.Need-scaled-value-requires
+scaled-value-requires c κs =
+    let a = accepted (c .before .before .before .before) in
+    (a .0 .0, a .1)
+
+returns : tie.Need-returns
+unfolding evalBaseAnswer baseWork
+returns c = refused _ _ _ (sym (c .before .tested .given .1) ∙ tested (c .before .before .before))
+
+returns-2 : tie.Need-returns-2
+unfolding evalBaseAnswer baseWork
+returns-2 c =
+    let sum = c .before in
+    let fill = sum .before .before .before in
+    let told = fill .before .before in
+    answered _ _ _ _ (sym (told .enum-told .given .1) ∙ tested (told .before .before)) (sum .scaled-value .ensures) (c .value .ensures)
+    (fill .fill .ensures)
+
+pub eval-base-spec : {M : Type 1} → statement M
+eval-base-spec =
+    tie.close
+    (tie.spec
+    (λ c κs. search needs)
+    (λ c κs. search needs)
+    (λ c κs. search needs)
+    (λ c κs. search needs)
+    (λ c. search needs)
+    (λ c. search needs)
+    fill-requires
+    scaled-value-requires
+    (λ c κs. search needs)
+    (λ c. search needs)
+    returns
+    (λ c. search needs)
+    returns-2)

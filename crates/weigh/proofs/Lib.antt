@@ -1,0 +1,6 @@
+pub mod Blocks
+pub mod Splitting
+pub mod WordParts
+pub mod ElementParts
+pub mod Weighing
+pub mod Moved

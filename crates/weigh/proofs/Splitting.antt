@@ -1,0 +1,103 @@
+-- The value of a table's sums by blocks, from those of the table's halves down to one block: one argument for words and for elements.
+-- Assumes nothing.
+use mathlib.Core.Path.{_≡_, sym, ap, ap₂, _∙_}
+use Prim.Native.Nat.{ℕ, suc, _+_, _-_, _*_, _^_, _≤_, _<_}
+use native.Mathlib.Nat.{add-mul, mul-le-mul-right, pos-of-ne-zero, two-pow-succ}
+use native.Mathlib.Numerals.{add-one}
+use native.Mathlib.Omega.{arith}
+use mathlib.Core.List.{List, _∷_}
+use lib.ListN.{length}
+use lib.Pow.{pow-add, pow-mono}
+use Rattle.algebra.specs.Ring.{Ops}
+use Rattle.algebra.specs.Sum.{sumTo}
+use Rattle.algebra.proofs.Sums.{sum-ext}
+use Rattle.multilinear.specs.Values.{valueAt}
+use Rattle.multilinear.specs.Beside.{line}
+use Rattle.multilinear.proofs.Values.{value-empty, value-ext, value-step}
+use Rattle.field.specs.Field.{Ext, field, fromWords, Holds}
+use Rattle.field.specs.declared.Element.{Element}
+use Rattle.field.proofs.Laws.{field-ring, read-as}
+use Rattle.table.specs.Table.{elementAt, elements}
+use Rattle.table.proofs.Laws.{elements-length}
+use Rattle.point.specs.Inner.{Coordinates}
+
+-- block h of the rows f, summed against the block's table
+abbrev pub against : ℕ → List ℕ → (ℕ → Ext) → ℕ → Ext
+against low block f h = sumTo field (2 ^ low) (λ l. field .mul (elementAt block l) (f (h * 2 ^ low + l)))
+
+-- the rows of a block are few
+pub few-rows : (low : ℕ) → low ≤ 8 → 2 ^ low ≤ 256
+few-rows low few = let m : 2 ^ low ≤ 2 ^ 8 = pow-mono few in omega arith
+
+-- row l of block h is among the rows
+within : (n low h l : ℕ) → h < 2 ^ n → l < 2 ^ low → h * 2 ^ low + l < 2 ^ (n + low)
+within n low h l a b =
+    let m : suc h * 2 ^ low ≤ 2 ^ n * 2 ^ low = mul-le-mul-right (2 ^ low) a in
+    omega (arith, pow-add 2 n low)
+
+-- a block of the second half is as many blocks further
+further : (n low h l : ℕ) → 2 ^ (n + low) + (h * 2 ^ low + l) ≡ (2 ^ n + h) * 2 ^ low + l
+further n low h l = omega (arith, pow-add 2 n low, add-mul (2 ^ n) h (2 ^ low))
+
+module _ (point block : List ℕ) (i high low : ℕ) where
+  -- no coordinate is left: one block
+  pub one-block : (f : ℕ → Ext) → high ≡ 0 → {x : Element}
+      → Holds x (sumTo field (2 ^ low) (λ l. field .mul (elementAt block l) (f l)))
+      → Holds x (valueAt field (elements point i high) (against low block f))
+  unfolding elements
+  one-block f e d =
+      rw (
+        e,
+        value-empty field-ring (against low block f),
+        sum-ext field-ring (2 ^ low) _ (λ l. field .mul (elementAt block l) (f l)) (λ l b. first l),
+      ) d
+    where
+      first : (l : ℕ) → field .mul (elementAt block l) (f (0 * 2 ^ low + l)) ≡ field .mul (elementAt block l) (f l)
+      first l = ap (λ n. field .mul (elementAt block l) (f n)) (omega arith)
+
+  module _ (left : high ≡ 0 → ⊥) where
+    more : suc (high - 1) ≡ high
+    more = let z : 0 < high = pos-of-ne-zero left in omega arith
+
+    -- the rows are twice those of a half
+    pub twice : 2 ^ (high + low) ≡ 2 ^ (high - 1 + low) + 2 ^ (high - 1 + low)
+    twice = let q : high + low ≡ suc (high - 1 + low) = omega (arith, more) in ap (λ n. 2 ^ n) q ∙ two-pow-succ (high - 1 + low)
+
+    -- the coordinates of a half
+    pub fewer : Coordinates (i + high + low) point → Coordinates (i + 1 + (high - 1) + low) point
+    fewer c = let q : i + 1 + (high - 1) + low ≡ i + high + low = omega (arith, more) in rw q c
+
+    abbrev zs : List Ext
+    zs = elements point (i + 1) (high - 1)
+
+    coordinates : elements point i high ≡ elementAt point i ∷ zs
+    unfolding elements
+    coordinates = ap (elements point i) (sym more) ∙ ap (λ a. elementAt point i ∷ elements point a (high - 1)) (sym (add-one i))
+
+    below : (h : ℕ) → h < 2 ^ length zs → h < 2 ^ (high - 1)
+    below h b = rw (elements-length point (i + 1) (high - 1)) at b
+
+    -- the values of the halves, on the line at the first coordinate
+    module _ (f low-half high-half : ℕ → Ext) (e0 : (y : ℕ) → y < 2 ^ (high - 1 + low) → low-half y ≡ f y)
+        (e1 : (y : ℕ) → y < 2 ^ (high - 1 + low) → high-half y ≡ f (2 ^ (high - 1 + low) + y)) where
+      at-first : valueAt field (elements point i high) (against low block f)
+          ≡ line field (valueAt field zs (against low block low-half)) (valueAt field zs (against low block high-half)) (elementAt point i)
+      at-first =
+          ap (λ us. valueAt field us (against low block f)) coordinates
+          ∙ value-step field-ring (elementAt point i) zs (against low block f)
+          ∙ ap₂ (λ a b. line field a b (elementAt point i))
+          (value-ext field-ring zs _ _
+          (λ h b. sum-ext field-ring (2 ^ low) _ _ (λ l c. ap (field .mul _) (sym (e0 _ (within (high - 1) low h l (below h b) c))))))
+          (value-ext field-ring zs _ _
+          (λ h b. sum-ext field-ring (2 ^ low) _ _
+          (λ l c. ap (field .mul _)
+          (ap f (moved h l) ∙ sym (e1 _ (within (high - 1) low h l (below h b) c))))))
+        where
+          moved : (h l : ℕ) → (2 ^ length zs + h) * 2 ^ low + l ≡ 2 ^ (high - 1 + low) + (h * 2 ^ low + l)
+          moved h l = rw (elements-length point (i + 1) (high - 1)) (sym (further (high - 1) low h l))
+
+      pub joined : {at0 at1 r x : Element} → Holds at0 (valueAt field zs (against low block low-half))
+          → Holds at1 (valueAt field zs (against low block high-half)) → Holds r (elementAt point i)
+          → Holds x (line field (fromWords at0) (fromWords at1) (fromWords r))
+          → Holds x (valueAt field (elements point i high) (against low block f))
+      joined d0 d1 d d-line = rw at-first (rw (read-as _ d0, read-as _ d1, read-as _ d) at d-line)

@@ -1,0 +1,59 @@
+-- What the sums against eq take and give. No exported operation's contract cites it. Assumes nothing.
+use mathlib.Core.Path.{_≡_}
+use mathlib.Core.Bool.{false}
+use Prim.Native.Nat.{ℕ, suc, _+_, _*_, _^_, _≤_, _<_}
+use mathlib.Core.List.{List}
+use lib.ListN.{length, getD}
+use Rattle.algebra.specs.Ring.{Ops}
+use Rattle.algebra.specs.Sum.{sumTo}
+use Rattle.algebra.specs.Words.{unreduced}
+use Rattle.multilinear.specs.Equality.{eqAt}
+use Rattle.field.specs.Field.{p, Ext, field, base}
+use Rattle.table.specs.Table.{elementAt, elements}
+use Rattle.point.specs.Inner.{Coordinates}
+
+-- a word for each row of k coordinates; the last may be missing
+pub record Row (k : ℕ) (words : List ℕ) : Type 0 where
+  pub fits : length words ≤ 2 ^ k
+  pub there : 2 ^ k ≤ suc (length words)
+  pub below : unreduced p words ≡ false
+
+-- a word for each row of k coordinates
+pub record Whole (k : ℕ) (words : List ℕ) : Type 0 where
+  pub count : length words ≡ 2 ^ k
+  pub below : unreduced p words ≡ false
+
+-- an element for each row of k coordinates
+pub record WholeExt (k : ℕ) (ws : List ℕ) : Type 0 where
+  pub count : length ws ≡ 4 * 2 ^ k
+  pub below : unreduced p ws ≡ false
+
+-- the table of scale·eq of the low coordinates that follow the first high ones
+pub record Block (high low : ℕ) (point : List ℕ) (scale : Ext) (block : List ℕ) : Type 0 where
+  pub size : length block ≡ 1024
+  pub below : unreduced p block ≡ false
+  pub holds : (y : ℕ) → y < 2 ^ low → elementAt block y ≡ field .mul scale (eqAt field (elements point high low) y)
+
+-- words at the rows from `from` on, of a table of high and low variables; coordinates from i on for the high ones, and a block's table
+-- for the low ones
+pub record Parts (i high low from : ℕ) (point words block : List ℕ) : Type 0 where
+  pub point-is : Coordinates (i + high + low) point
+  pub fits : from + length words ≤ 2 ^ (high + low)
+  pub words-below : unreduced p words ≡ false
+  pub small : low ≤ 8
+  pub size : length block ≡ 1024
+  pub below : unreduced p block ≡ false
+
+pub record PartsExt (i high low : ℕ) (point ws block : List ℕ) : Type 0 where
+  pub point-is : Coordinates (i + high + low) point
+  pub entries-are : WholeExt (high + low) ws
+  pub small : low ≤ 8
+  pub size : length block ≡ 1024
+  pub below : unreduced p block ≡ false
+
+-- block h of a table of base words, summed against the block's table
+unfoldable pub blockSum : ℕ → List ℕ → (ℕ → ℕ) → ℕ → Ext
+blockSum low block word h = sumTo field (2 ^ low) (λ l. field .mul (elementAt block l) (base (word (h * 2 ^ low + l))))
+
+unfoldable pub blockSumExt : ℕ → List ℕ → List ℕ → ℕ → Ext
+blockSumExt low block ws h = sumTo field (2 ^ low) (λ l. field .mul (elementAt block l) (elementAt ws (h * 2 ^ low + l)))

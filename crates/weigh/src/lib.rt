@@ -1,0 +1,133 @@
+// Sums against eq: what values and folds have in common.
+//
+// A table is split into halves, one variable at a time, the first variable first:
+//
+//     f(z0, z1, ..) = f(0, z1, ..) + (f(1, z1, ..) - f(0, z1, ..)) z0
+//
+// What is left at the last 8 variables, or fewer, is summed against their table of eq, which is made once.
+use field::Element;
+ghost use mathlib.Core.Path.{_≡_};
+ghost use Prim.Native.Nat.{_+_, _≤_};
+ghost use lib.ListN.{getD, replicate};
+ghost use Rattle.algebra.specs.Ring.{Ops};
+ghost use Rattle.multilinear.specs.Values.{valueAt};
+ghost use Rattle.multilinear.specs.Beside.{line};
+ghost use Rattle.field.specs.Field.{field, base, fromWords, Reduced, Holds};
+ghost use Rattle.table.specs.Table.{elementAt, elements, placed};
+ghost use Rattle.point.specs.Inner.{Coordinates};
+ghost use Rattle.weigh.specs.Weigh.{Row, WholeExt, Block, Parts, PartsExt, blockSum, blockSumExt};
+
+// The most variables of a block.
+pub const BLOCK: usize = 8;
+
+// scale times the sum of eq[y] words[y] over the rows of k coordinates. The last row's word may be missing, and counts as 0.
+pub fn weigh(words: &[u32], point: &[u32], k: usize, scale: Element) -> Element
+    requires { ⌜ (Coordinates k (now point) × Reduced scale) × Row k (now words) ⌝ }
+    ensures { λ r. ⌜ Holds r (field .mul (fromWords scale) (valueAt field (elements (now (point .entry)) 0 k) (λ y. base (getD (now (words .entry)) y 0)))) ⌝ }
+{
+    let low = lowest(k);
+    let block = block_of(point, k - low, low, scale);
+    part(words, 0, point, 0, k - low, low, &block)
+}
+
+// The same of a table of elements, each of them there.
+pub fn weigh_ext(entries: &[u32], point: &[u32], k: usize, scale: Element) -> Element
+    requires { ⌜ (Coordinates k (now point) × Reduced scale) × WholeExt k (now entries) ⌝ }
+    ensures { λ r. ⌜ Holds r (field .mul (fromWords scale) (valueAt field (elements (now (point .entry)) 0 k) (elementAt (now (entries .entry))))) ⌝ }
+{
+    let low = lowest(k);
+    let block = block_of(point, k - low, low, scale);
+    halves_ext(entries, point, 0, k - low, low, &block)
+}
+
+// How many of k variables are a block's.
+pub fn lowest(k: usize) -> usize
+    ensures { λ r. ⌜ (r ≤ k) × (r ≤ 8) ⌝ }
+{
+    if k < BLOCK { k } else { BLOCK }
+}
+
+// The table of scale eq of the low coordinates that follow the first high ones.
+pub fn block_of(point: &[u32], high: usize, low: usize, scale: Element) -> [u32; 1024]
+    requires { ⌜ (Coordinates (high + low) (now point) × Reduced scale) × (low ≤ 8) ⌝ }
+    ensures { λ r. ⌜ Block high low (now (point .entry)) (fromWords scale) r ⌝ }
+{
+    let words = 4 * table::rows(low);
+    let mut block = block_room();
+    point::equality::fill_last(&mut block[..words], point, high, low, scale);
+    block
+}
+
+fn block_room() -> [u32; 1024]
+    ensures { λ r. ⌜ r ≡ replicate 1024 0 ⌝ }
+{
+    [0u32; 1024]
+}
+
+// The value, at the coordinates i to i + high - 1, of the sums of the blocks against the block's table. The words stand at the rows
+// from `from` on; a row that has none counts as 0.
+pub fn part(
+    words: &[u32],
+    from: usize,
+    point: &[u32],
+    i: usize,
+    high: usize,
+    low: usize,
+    block: &[u32],
+) -> Element
+    requires { ⌜ Parts i high low from (now point) (now words) (now block) ⌝ }
+    ensures { λ r. ⌜ Holds r (valueAt field (elements (now (point .entry)) i high) (blockSum low (now (block .entry)) (placed from (now (words .entry))))) ⌝ }
+{
+    if words.len() == 0 {
+        Element::zero()
+    } else if high == 0 {
+        let start = 4 * from;
+        let end = start + 4 * words.len();
+        kernel::dot(&block[start..end], words)
+    } else {
+        let half = table::rows(high - 1 + low);
+        let from0 = table::smaller(from, half);
+        let cut = table::smaller(words.len(), half - from0);
+        let at0 = part(&words[..cut], from0, point, i + 1, high - 1, low, block);
+        let at1 = part(
+            &words[cut..],
+            from - from0,
+            point,
+            i + 1,
+            high - 1,
+            low,
+            block,
+        );
+        line(at0, at1, table::read(point, i))
+    }
+}
+
+// The same of a table of elements.
+fn halves_ext(
+    entries: &[u32],
+    point: &[u32],
+    i: usize,
+    high: usize,
+    low: usize,
+    block: &[u32],
+) -> Element
+    requires { ⌜ PartsExt i high low (now point) (now entries) (now block) ⌝ }
+    ensures { λ r. ⌜ Holds r (valueAt field (elements (now (point .entry)) i high) (blockSumExt low (now (block .entry)) (now (entries .entry)))) ⌝ }
+{
+    if high == 0 {
+        kernel::dot_ext(block, entries, table::rows(low))
+    } else {
+        let half = 4 * table::rows(high - 1 + low);
+        let at0 = halves_ext(&entries[..half], point, i + 1, high - 1, low, block);
+        let at1 = halves_ext(&entries[half..], point, i + 1, high - 1, low, block);
+        line(at0, at1, table::read(point, i))
+    }
+}
+
+// The line through a at 0 and b at 1, at r.
+fn line(a: Element, b: Element, r: Element) -> Element
+    requires { ⌜ Reduced a × Reduced b × Reduced r ⌝ }
+    ensures { λ x. ⌜ Holds x (line field (fromWords a) (fromWords b) (fromWords r)) ⌝ }
+{
+    a.add(b.sub(a).mul(r))
+}

@@ -1,0 +1,5 @@
+pub mod Weights
+mod Filling
+mod Accumulating
+mod Folding
+mod Folded
