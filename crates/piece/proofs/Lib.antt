@@ -1,0 +1,6 @@
+pub mod Scattering
+pub mod WholeRows
+pub mod RowByRow
+pub mod PlaceSums
+pub mod PlaceByPlace
+pub mod BySide

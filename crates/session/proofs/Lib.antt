@@ -1,0 +1,9 @@
+pub mod Padding
+pub mod Scanning
+pub mod Accepted
+pub mod Outcomes
+pub mod Runs
+pub mod Joining
+pub mod Ledgers
+pub mod Whole
+pub mod Demand3

@@ -1,0 +1,47 @@
+-- A table fed in any pieces leaves what the one-call fold leaves (specs/Whole.antt). Assumes nothing.
+use mathlib.Core.Path.{_≡_, refl, sym, ap, _∙_}
+use Prim.Native.Nat.{ℕ}
+use mathlib.Core.Bool.{true}
+use mathlib.Core.List.{List, [], _∷_, _++_, append-assoc, append-nil}
+use Rattle.table.specs.Table.{tableWords}
+use Rattle.table.specs.Refusals.{leaves}
+use Rattle.table.specs.declared.Verdict.{Verdict}
+use Rattle.table.specs.declared.Verdict.the-variants.{Accepted, Refused}
+use Rattle.session.specs.Session.{Args, openAnswer}
+use Rattle.session.specs.Ledger.{Call, feed, close, run, Ledger, empty, ledgerFeed, ledgerClose, ledgerStep, innerOf, ledgerAt, joined}
+use Rattle.session.specs.Demand3.{answers, after}
+use Rattle.session.specs.Whole.{Whole}
+use Rattle.session.proofs.Ledgers.{session-is-ledger}
+
+-- the ledger's words after a call
+close-words : (v : Verdict) (l : Ledger) → leaves {A = Ledger} v (record { words = l .words; closed = true }) l .words ≡ l .words
+close-words Accepted l = refl
+close-words (Refused r) l = refl
+
+feed-words : (v : Verdict) (piece : List ℕ) (l : Ledger)
+    → leaves {A = Ledger} v (record { words = l .words ++ piece; closed = l .closed }) l .words ≡ l .words ++ leaves v piece []
+feed-words Accepted piece l = refl
+feed-words (Refused r) piece l = sym (append-nil _)
+
+-- the ledger's words are the pieces that were accepted, by its answers
+words-are : (a : Args) (cs : List Call) (l : Ledger)
+    → run (ledgerStep a) cs l .1 .words ≡ l .words ++ joined cs (run (ledgerStep a) cs l .0)
+words-are a [] l = sym (append-nil _)
+words-are a (close ∷ cs) l =
+    let l′ = ledgerStep a close l .1 in
+    words-are a cs l′ ∙ ap (λ ws. ws ++ joined cs (run (ledgerStep a) cs l′ .0)) (close-words (ledgerClose a l) l)
+words-are a (feed piece ∷ cs) l =
+    let l′ = ledgerStep a (feed piece) l .1 in
+    words-are a cs l′
+    ∙ ap (λ ws. ws ++ joined cs (run (ledgerStep a) cs l′ .0)) (feed-words (ledgerFeed a piece l) piece l)
+    ∙ append-assoc (l .words) _ _
+
+pub out-is : (a : Args) (out : List ℕ) → openAnswer a out ≡ Accepted → (cs : List Call)
+    → after a out cs .out ≡ tableWords (innerOf a) (ledgerAt a (joined cs (answers a out cs)))
+out-is a out h cs =
+    let e = session-is-ledger a out h cs in
+    ap (λ q. q .1 .out) e
+    ∙ ap (λ ws. tableWords (innerOf a) (ledgerAt a ws)) (words-are a cs empty ∙ ap (λ q. joined cs (q .0)) (sym e))
+
+pub whole : Whole
+whole = record { whole = out-is }

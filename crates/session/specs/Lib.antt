@@ -1,0 +1,5 @@
+pub mod Session
+pub mod Ledger
+pub mod Demand3
+pub mod Whole
+pub mod Inner
