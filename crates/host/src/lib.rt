@@ -2,6 +2,7 @@
 mod answers;
 mod elements;
 pub mod fixed;
+pub mod sessions;
 pub mod values;
 
 use elements::Operation;

@@ -5,11 +5,13 @@ mod folds;
 mod points;
 mod print;
 mod replay;
+mod sessions;
 
 fn main() {
     elements::run();
     points::run();
     fixed::run();
     folds::run();
+    sessions::run();
     replay::run();
 }

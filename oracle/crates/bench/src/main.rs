@@ -3,6 +3,8 @@
 //!
 //!     bench [RUNS]
 
+mod folds;
+
 use std::env;
 use std::hint::black_box;
 use std::time::Instant;
@@ -81,4 +83,5 @@ fn main() {
             ("Rust", &|| rust_mul_repeat(&x, &y, times)),
         ],
     );
+    folds::run(runs.div_ceil(3));
 }

@@ -5,7 +5,7 @@ use crate::Operation::*;
 use crate::{Call, P};
 
 /// The most variables or coordinates.
-const MOST: u64 = 20;
+pub const MOST: u64 = 20;
 
 /// The most points of a batch.
 const MOST_POINTS: u64 = 64;
@@ -176,7 +176,7 @@ fn over(count: u64) -> bool {
 }
 
 /// 2^k, where a u64 can hold it.
-fn rows(k: u64) -> Option<u64> {
+pub fn rows(k: u64) -> Option<u64> {
     1u64.checked_shl(u32::try_from(k).ok()?)
 }
 
@@ -189,11 +189,11 @@ fn misfits(work: &[u32], k: u64) -> bool {
     both != Some(entries(work))
 }
 
-fn splits<const N: usize>(slices: [&[u32]; N]) -> bool {
+pub fn splits<const N: usize>(slices: [&[u32]; N]) -> bool {
     slices.iter().any(|words| words.len() % 4 != 0)
 }
 
-fn unreduced<const N: usize>(slices: [&[u32]; N]) -> bool {
+pub fn unreduced<const N: usize>(slices: [&[u32]; N]) -> bool {
     slices
         .iter()
         .any(|words| words.iter().any(|&word| word >= P))

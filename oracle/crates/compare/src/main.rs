@@ -3,12 +3,15 @@
 //!     compare [--long] [--seed N]
 
 mod batch;
+mod changes;
 mod elements;
 mod fixing;
 mod folds;
 mod operation;
 mod points;
 mod run;
+mod sessions;
+mod step;
 mod tables;
 mod values;
 
@@ -40,6 +43,7 @@ fn main() {
     values::compare(&mut run);
     folds::compare(&mut run);
     fixing::compare(&mut run);
+    sessions::compare(&mut run);
     run.finish();
 }
 

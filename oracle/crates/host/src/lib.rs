@@ -69,4 +69,9 @@ operations! {
     host_fix_suffix_var_mut = fix_suffix_var_mut [r] () [table, out];
     host_fix_prefix_var_mut_monomial = fix_prefix_var_mut_monomial [r] () [table, out];
     host_sum_prefix_var_mut = sum_prefix_var_mut [] () [table, out];
+
+    host_session_open = session_open
+        [point, scale] (n: u64, side: u32, weight: u32) [words, out];
+    host_session_feed = session_feed [piece] () [words, out];
+    host_session_close = session_close [] () [words, out];
 }

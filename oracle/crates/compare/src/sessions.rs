@@ -1,0 +1,193 @@
+//! The fold session: tables fed in pieces, with refused calls among them.
+
+use std::collections::BTreeSet;
+use std::process;
+
+use calls::{Outcome, Random, expect};
+
+use crate::changes::{OPEN, OPENED};
+use crate::run::Input::{Number, Words};
+use crate::run::{Input, Run, call};
+use crate::step::Kind::{Close, Feed, Open};
+use crate::step::{Kind, NO_SESSION, Step, WORDS};
+
+/// Each call's refusals in their order.
+const REFUSALS: [(Kind, &[u32]); 3] = [
+    (Open, &[1, 3, 4, 5]),
+    (Feed, &[11, 10, 4, 5, 8]),
+    (Close, &[11, 10, 4, 5, 9]),
+];
+
+struct Sessions<'a> {
+    run: &'a mut Run,
+    /// The refusals that some call met, the first before the second, or one
+    /// alone as a pair with itself.
+    met: BTreeSet<(Kind, u32, u32)>,
+}
+
+pub fn compare(run: &mut Run) {
+    run.operation("host_session_open, _feed, _close", |run| {
+        let met = BTreeSet::new();
+        let mut sessions = Sessions { run, met };
+        for n in 0..=8 {
+            for k in 0..=n {
+                sessions.all(n, k, sessions.run.count(1, 20));
+            }
+        }
+        for k in [0, 1, 6, 11, 12] {
+            sessions.all(12, k, sessions.run.count(1, 5));
+        }
+        for side in [0, 1] {
+            for weight in 0..sessions.run.count(1, 3) as u32 {
+                sessions.session((20, 10), side, 2 - weight, Some(4_096));
+            }
+        }
+        // The most coordinates: none is unused.
+        sessions.session((20, 20), 0, 2, Some(1 << 19));
+        sessions.all_met();
+    });
+}
+
+impl Sessions<'_> {
+    /// Sessions of each side and weight, fed in several ways.
+    fn all(&mut self, n: usize, k: usize, count: usize) {
+        for choice in 0..6 * count as u32 {
+            let (side, weight) = (choice % 2, choice / 2 % 3);
+            for length in [None, None, None, Some(16), Some(1 << n)] {
+                self.session((n, k), side, weight, length);
+            }
+        }
+    }
+
+    /// One session from open to close, its table fed in pieces of this length
+    /// or else of random lengths.
+    fn session(&mut self, (n, k): (usize, usize), side: u32, weight: u32, length: Option<usize>) {
+        let random = &mut self.run.random;
+        let table = random.words(1 << n);
+        let mut step = Step {
+            kind: Open,
+            n: n as u64,
+            side,
+            weight,
+            scale: random.elements(4),
+            point: random.elements(4 * k),
+            piece: vec![],
+            words: random.stale(WORDS),
+            out: random.stale(4 << (n - k)),
+        };
+        self.step(&mut step);
+        let mut left = &table[..];
+        step.kind = Feed;
+        while !left.is_empty() {
+            let random = &mut self.run.random;
+            let length = length.unwrap_or_else(|| piece(random, n, k, left.len()));
+            let (piece, after) = left.split_at(length.min(left.len()));
+            (step.piece, left) = (piece.to_vec(), after);
+            self.step(&mut step);
+        }
+        step.piece.clear();
+        self.step(&mut step);
+        step.kind = Close;
+        self.step(&mut step);
+        self.whole(&step, &table);
+        for kind in [Feed, Close, Feed, Close] {
+            step.kind = kind;
+            self.damaged(&step);
+        }
+    }
+
+    /// Calls like this one, most of them refused, and then the call itself.
+    fn step(&mut self, step: &mut Step) {
+        let most = if step.kind == Feed { 3 } else { 5 };
+        for _ in 0..self.run.random.below(most) {
+            self.damaged(step);
+        }
+        [step.words, step.out] = self.case(step).lent;
+    }
+
+    /// The call with up to two changes.
+    fn damaged(&mut self, step: &Step) {
+        let mut step = step.clone();
+        let random = &mut self.run.random;
+        let changes = if step.kind == Open { OPEN } else { OPENED };
+        for _ in 0..random.below(3) {
+            changes[random.below(changes.len() as u32) as usize](&mut step, random);
+        }
+        self.case(&step);
+    }
+
+    fn case(&mut self, step: &Step) -> Outcome<2> {
+        let refusals = step.refusals();
+        let holding: Vec<_> = refusals.iter().filter(|(holds, _)| *holds).collect();
+        match holding[..] {
+            [] => {}
+            [only] => _ = self.met.insert((step.kind, only.1, only.1)),
+            [first, ref others @ ..] => {
+                let pairs = others.iter().map(|other| (step.kind, first.1, other.1));
+                self.met.extend(pairs);
+            }
+        }
+
+        let before = [&step.words[..], &step.out];
+        let expected = expect(&refusals, before, || step.accepted());
+        let got = call(before, |[words, out]| step.ours(words, out));
+        let mut inputs = match step.kind {
+            Open => arguments(step),
+            Feed => vec![("piece", Words(&step.piece))],
+            Close => vec![],
+        };
+        inputs.push(("session before", Words(before[0])));
+        inputs.push(("out before", Words(before[1])));
+        self.run.same(&inputs, &[expected], &got);
+        got
+    }
+
+    /// The closed session's out beside the Rust's fold of the whole table.
+    fn whole(&mut self, step: &Step, table: &[u32]) {
+        let mut inputs = arguments(step);
+        inputs.push(("table", Words(table)));
+        let got = call([&step.out], |_| 0);
+        self.run.same(&inputs, &step.folded(table), &got);
+    }
+
+    /// Every refusal must be met alone, and every two at once. A session closed
+    /// with words missing is broken: none meets 10 before 9.
+    fn all_met(&self) {
+        for (kind, refusals) in REFUSALS {
+            let mut wanted = vec![(NO_SESSION, NO_SESSION)];
+            for (i, &first) in refusals.iter().enumerate() {
+                wanted.extend(refusals[i..].iter().map(|&second| (first, second)));
+            }
+            wanted.retain(|&pair| pair != (10, 9));
+            for (first, second) in wanted {
+                if !self.met.contains(&(kind, first, second)) {
+                    println!("no call of {kind:?} met refusals {first} and {second}");
+                    process::exit(1);
+                }
+            }
+        }
+    }
+}
+
+/// The length of a piece: none, one, sixteen, past a row's or a place's edge,
+/// or any.
+fn piece(random: &mut Random, n: usize, k: usize, left: usize) -> usize {
+    match random.below(8) {
+        0 => 0,
+        1 | 2 => 1,
+        3 => 16,
+        4 => (1 << k) + 1,
+        5 => (1 << (n - k)) + 1,
+        _ => random.below(left as u32 + 1) as usize,
+    }
+}
+
+fn arguments(step: &Step) -> Vec<(&str, Input<'_>)> {
+    vec![
+        ("point", Words(&step.point)),
+        ("scale", Words(&step.scale)),
+        ("n", Number(step.n)),
+        ("side", Number(step.side.into())),
+        ("weight", Number(step.weight.into())),
+    ]
+}
