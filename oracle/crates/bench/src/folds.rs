@@ -13,6 +13,19 @@ const N: usize = 20;
 const WORDS: u64 = 1 << N;
 const SCALE: [u32; 4] = [123456789, 987654321, 192837465, 564738291];
 
+/// The coordinates and the words of a piece. A feed reads all of out, so small
+/// pieces into a large out are left aside.
+const PIECES: [(usize, usize); 8] = [
+    (10, 16),
+    (20, 16),
+    (0, 4096),
+    (10, 4096),
+    (20, 4096),
+    (0, 1 << 20),
+    (10, 1 << 20),
+    (20, 1 << 20),
+];
+
 /// The first and the last words of what a call leaves.
 type Ends = [u32; 8];
 
@@ -167,7 +180,7 @@ fn sessions(runs: usize, input: &Input) {
         ("suffix", 1, host::compress_suffix_shifted),
     ];
     for (name, side, fold) in sides {
-        for (k, piece) in [(10, 4096), (20, 4096), (10, 1 << 20), (20, 1 << 20)] {
+        for (k, piece) in PIECES {
             table(
                 &format!("session, {name}, shifted, k = {k}, pieces of {piece}, a word"),
                 WORDS,
