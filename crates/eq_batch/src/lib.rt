@@ -140,19 +140,13 @@ fn add_point(point: &[u32], n: usize, scale: Element, out: &mut [u32])
     requires { ⌜ (Coordinates n (now point) × Reduced scale) × Room 0 (2 ^ n) (now out) ⌝ }
     ensures { λ _. ⌜ Gained 0 (2 ^ n) (λ y. field .mul (fromWords scale) (eqAt field (elements (now (point .entry)) 0 n) y)) (now (out .entry)) (now (out .exit)) ⌝ }
 {
-    let low = smaller(n, BLOCK);
+    let low = table::smaller(n, BLOCK);
     let high = n - low;
     let rows = table::rows(low);
     for h in 0..table::rows(high) {
         let seed = scale.mul(point::equality::at_row(point, high, h));
         add_block(point, high, low, seed, h * rows, out);
     }
-}
-
-fn smaller(a: usize, b: usize) -> usize
-    ensures { λ r. ⌜ (r ≤ a) × (r ≤ b) ⌝ }
-{
-    if a < b { a } else { b }
 }
 
 // out gains, from place `from` on, seed eq of the low coordinates that follow the high ones.

@@ -2,7 +2,6 @@
 use Prim.Native.Nat.{ℕ, _^_}
 use mathlib.Core.Bool.{_||_}
 use mathlib.Core.List.{List, [], _∷_}
-use Rattle.algebra.specs.Ring.{Ops}
 use Rattle.algebra.specs.Words.{unreduced}
 use Rattle.multilinear.specs.Equality.{eqAt}
 use Rattle.multilinear.specs.Successors.{nextAt}

@@ -1,26 +1,20 @@
 -- Values of a table at a point (document 01, "Values"; "Refused calls": Evaluations). Assumes nothing.
 use Prim.Native.Nat.{ℕ}
 use mathlib.Core.Bool.{Bool, not, _||_}
-use mathlib.Core.List.{List, [], _∷_}
+use mathlib.Core.List.{List}
 use lib.Dec.{eqb}
 use lib.ListN.{length, getD}
 use Rattle.algebra.specs.Words.{unreduced}
 use Rattle.multilinear.specs.Values.{valueAt, nextValueAt}
 use Rattle.field.specs.Field.{p, field, base}
 use Rattle.table.specs.Table.{entries, elementAt, pointOf}
-use Rattle.table.specs.Refusals.{Test, _gives_, verdict, evaluated, splits, notPower, variables, tooMany, tooManyVariables}
-use Rattle.table.specs.declared.Refusal.the-variants.{Split, NotPower, TooMany, Lengths, Unreduced}
+use Rattle.table.specs.Refusals.{Test, verdict, evaluated, splits, variables, entryTests}
 use Rattle.table.specs.declared.Evaluation.{Evaluation}
 
 -- Evaluations: 1, 2, 3, 4, 5, of a table of `count` entries
 abbrev pub valueTests : Bool → ℕ → List ℕ → List ℕ → List Test
 valueTests split count table point =
-    (split gives Split)
-    ∷ (notPower count gives NotPower)
-    ∷ (tooManyVariables count || tooMany point gives TooMany)
-    ∷ (not (eqb (variables count) (entries point)) gives Lengths)
-    ∷ (unreduced p table || unreduced p point gives Unreduced)
-    ∷ []
+    entryTests split count point (not (eqb (variables count) (entries point))) (unreduced p table || unreduced p point)
 
 -- a table of base words has an entry a word, a table of elements an entry for four
 abbrev pub baseTests : List ℕ → List ℕ → List Test

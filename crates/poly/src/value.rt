@@ -1,7 +1,6 @@
 // Values of a table at a point.
 use field::Element;
 use table::Evaluation;
-use table::Refusal;
 use table::Verdict;
 ghost use mathlib.Core.Path.{_≡_};
 ghost use lib.ListN.{getD};
@@ -60,14 +59,14 @@ pub fn eval_next_base(table: &[u32], point: &[u32]) -> Evaluation
 fn test_value(split: bool, count: usize, table: &[u32], point: &[u32]) -> Verdict
     ensures { λ r. ⌜ r ≡ verdict (valueTests split count (now (table .entry)) (now (point .entry))) ⌝ }
 {
-    let many = table::either(table::too_many_variables(count), table::too_many(point));
     let unreduced = table::either(field::unreduced(table), field::unreduced(point));
-    Verdict::Accepted
-        .refuse_if(split, Refusal::Split)
-        .refuse_if(table::not_power(count), Refusal::NotPower)
-        .refuse_if(many, Refusal::TooMany)
-        .refuse_if(table::variables(count) != point.len() / 4, Refusal::Lengths)
-        .refuse_if(unreduced, Refusal::Unreduced)
+    table::test_entries(
+        split,
+        count,
+        point,
+        table::variables(count) != point.len() / 4,
+        unreduced,
+    )
 }
 
 // Each row's weight goes to the row after it; the last row has its own once more.

@@ -23,7 +23,7 @@ out-holds : (a : Args) (out : List ℕ) → openAnswer a out ≡ Accepted → (c
     → getAt (after a out cs .out) i ≡ toWords (ledgerAt a (joined cs (answers a out cs)) i)
 out-holds a out h cs i b = ap (λ w. getAt w i) (out-is a out h cs) ∙ table-words-at (innerOf a) _ i b
 
-element-is : (a : Args) (out : List ℕ) → openAnswer a out ≡ Accepted → (cs : List Call) (i : ℕ) → i < innerOf a
+pub element-is : (a : Args) (out : List ℕ) → openAnswer a out ≡ Accepted → (cs : List Call) (i : ℕ) → i < innerOf a
     → elementAt (after a out cs .out) i ≡ ledgerAt a (joined cs (answers a out cs)) i
 element-is a out h cs i b = ap (λ w. elementAt w i) (out-is a out h cs) ∙ table-at (innerOf a) _ i b
 

@@ -50,6 +50,10 @@ accepted a out e =
       scale-below = u .1;
     }
 
+-- out has an element for each place
+pub places-there : (a : Args) (out : List ℕ) → openAnswer a out ≡ Accepted → entries out ≡ innerOf a
+places-there a out e = omega (arith, accepted a out e .room)
+
 -- no more words than the table has, and not fewer once it is closed
 record Inv (a : Args) (l : Ledger) : Type 0 where
   room : length (l .words) ≤ 2 ^ a .n

@@ -1,4 +1,4 @@
--- A table fed in any pieces leaves what the one-call fold leaves (specs/Whole.antt). Assumes nothing.
+-- Out after a list of calls is the table of the ledger's places, over the accepted pieces joined. Assumes nothing.
 use mathlib.Core.Path.{_≡_, refl, sym, ap, _∙_}
 use Prim.Native.Nat.{ℕ}
 use mathlib.Core.Bool.{true}
@@ -10,7 +10,6 @@ use Rattle.table.specs.declared.Verdict.the-variants.{Accepted, Refused}
 use Rattle.session.specs.Session.{Args, openAnswer}
 use Rattle.session.specs.Ledger.{Call, feed, close, run, Ledger, empty, ledgerFeed, ledgerClose, ledgerStep, innerOf, ledgerAt, joined}
 use Rattle.session.specs.Demand3.{answers, after}
-use Rattle.session.specs.Whole.{Whole}
 use Rattle.session.proofs.Ledgers.{session-is-ledger}
 
 -- the ledger's words after a call
@@ -42,6 +41,3 @@ out-is a out h cs =
     let e = session-is-ledger a out h cs in
     ap (λ q. q .1 .out) e
     ∙ ap (λ ws. tableWords (innerOf a) (ledgerAt a ws)) (words-are a cs empty ∙ ap (λ q. joined cs (q .0)) (sym e))
-
-pub whole : Whole
-whole = record { whole = out-is }

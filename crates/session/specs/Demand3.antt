@@ -3,16 +3,14 @@ use mathlib.Core.Path.{_≡_}
 use Prim.Native.Nat.{ℕ, _^_, _<_}
 use mathlib.Core.List.{List}
 use lib.ListN.{length, getD}
-use Rattle.algebra.specs.Ring.{Ops}
-use Rattle.algebra.specs.Sum.{sumTo}
 use Rattle.multilinear.specs.declared.Weight.{Weight}
 use Rattle.multilinear.specs.declared.Weight.the-variants.{Shifted, Next}
 use Rattle.multilinear.specs.Equality.{eqAt}
-use Rattle.multilinear.specs.Successors.{NextParts, evalNext, lastRow, nextAt}
+use Rattle.multilinear.specs.Successors.{evalNext, lastRow, nextAt}
 use Rattle.multilinear.specs.Values.{valueAt}
 use Rattle.multilinear.specs.Folds.{wordOf}
 use Rattle.field.specs.Field.{Ext, field, base, toWords, fromWords}
-use Rattle.table.specs.Table.{getAt, elementAt, entries, pointOf}
+use Rattle.table.specs.Table.{getAt, elementAt, pointOf}
 use Rattle.table.specs.declared.Verdict.{Verdict}
 use Rattle.table.specs.declared.Verdict.the-variants.{Accepted}
 use Rattle.session.specs.Session.{State, Args, openAnswer, openLeaves}

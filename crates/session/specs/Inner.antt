@@ -1,5 +1,5 @@
 -- What the inner functions take and give. No exported operation's contract cites it. Assumes nothing.
-use Prim.Native.Nat.{ℕ, _≤_}
+use Prim.Native.Nat.{_≤_}
 use mathlib.Core.Bool.{Bool}
 use mathlib.Core.List.{List, [], _∷_}
 use Rattle.table.specs.Refusals.{Test, _gives_, most}

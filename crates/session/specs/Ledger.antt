@@ -8,7 +8,7 @@ use Rattle.algebra.specs.Words.{unreduced}
 use Rattle.multilinear.specs.Folds.{foldAt}
 use Rattle.field.specs.Field.{p, Ext, field, base, fromWords}
 use Rattle.table.specs.Table.{tableWords, entries, pointOf}
-use Rattle.table.specs.Refusals.{Test, _gives_, verdict, leaves}
+use Rattle.table.specs.Refusals.{_gives_, verdict, leaves}
 use Rattle.table.specs.declared.Refusal.the-variants.{Unreduced, TooLong, Missing, Closed}
 use Rattle.table.specs.declared.Verdict.{Verdict}
 use Rattle.session.specs.Session.{State, state, Args, sessionOf, feedAnswer, feedLeaves, closeAnswer, closeLeaves}

@@ -10,7 +10,7 @@ use Rattle.algebra.specs.Words.{unreduced}
 use Rattle.field.specs.Field.{p, Reduced}
 use Rattle.field.specs.declared.Element.{Element}
 use Rattle.table.specs.Table.{entries}
-use Rattle.table.specs.Refusals.{verdict, splits, variables, tooMany, tooManyVariables}
+use Rattle.table.specs.Refusals.{verdict, splits, variables, tooMany, tooManyVariables, entryTests}
 use Rattle.table.specs.declared.Verdict.the-variants.{Accepted}
 use Rattle.table.proofs.Tests.{whole, same, or-none}
 use Rattle.table.proofs.Powers.{power-of}
@@ -20,7 +20,7 @@ use Rattle.point.proofs.Coordinates.{coordinates}
 use Rattle.weigh.specs.Weigh.{Whole, WholeExt}
 use Rattle.work.specs.Work.{first, others, workDiffers}
 use Rattle.work.specs.Inner.{Sized, Open}
-use Rattle.split_eq.specs.Split.{splitTests, valueTests, baseVerdict, extVerdict, lastTests, accumulateAnswer}
+use Rattle.split_eq.specs.Split.{valueTests, baseVerdict, extVerdict, lastTests, accumulateAnswer}
 
 -- what the filling of the work buffer asks
 abbrev pub Fillable : List ℕ → Element → List ℕ → Type 0
@@ -47,7 +47,7 @@ module _ (point : List ℕ) (scale : Element) (work : List ℕ) where
     abbrev tests : Type 0
     tests =
         Clear
-        (splitTests split count point (not (eqb (variables count) (entries point)) || workDiffers work (entries point)) below)
+        (entryTests split count point (not (eqb (variables count) (entries point)) || workDiffers work (entries point)) below)
 
     shaped : tests → (tooMany point ≡ false) × (workDiffers work (entries point) ≡ false) × (count ≡ 2 ^ entries point)
     shaped h =
@@ -94,7 +94,7 @@ module _ (point : List ℕ) (scale : Element) (work : List ℕ) where
       let below = unreduced p out || unreduced p point || scales in
       let h =
       clear
-      (splitTests split (entries out) point
+      (entryTests split (entries out) point
       (not (eqb (variables (entries out)) (entries point)) || workDiffers work (entries point))
       below) e
       in

@@ -5,7 +5,6 @@ use mathlib.Core.Bool.{Bool, not, _||_}
 use mathlib.Core.List.{List, [], _∷_}
 use lib.Dec.{eqb, ltb}
 use lib.ListN.{length, getD}
-use Rattle.algebra.specs.Ring.{Ops}
 use Rattle.algebra.specs.Words.{unreduced}
 use Rattle.multilinear.specs.declared.Side.{Side}
 use Rattle.multilinear.specs.declared.Weight.{Weight}
@@ -15,21 +14,11 @@ use Rattle.multilinear.specs.Folds.{foldAt, scaledValueAt, scaledNextValueAt}
 use Rattle.field.specs.Field.{p, Ext, field, base, fromWords}
 use Rattle.field.specs.declared.Element.{Element}
 use Rattle.table.specs.Table.{tableWords, entries, elementAt, pointOf}
-use Rattle.table.specs.Refusals.{Test, _gives_, verdict, leaves, evaluated, splits, notPower, variables, tooMany, tooManyVariables, rowsDiffer}
-use Rattle.table.specs.declared.Refusal.the-variants.{Split, NotPower, TooMany, Lengths, Unreduced}
+use Rattle.table.specs.Refusals.{Test, _gives_, verdict, leaves, evaluated, splits, variables, tooMany, rowsDiffer, entryTests}
+use Rattle.table.specs.declared.Refusal.the-variants.{Split, TooMany, Lengths, Unreduced}
 use Rattle.table.specs.declared.Verdict.{Verdict}
 use Rattle.table.specs.declared.Evaluation.{Evaluation}
 use Rattle.work.specs.Work.{workDiffers, workWords}
-
--- 1, 2, 3, 4, 5 for a table of `count` entries
-abbrev pub splitTests : Bool → ℕ → List ℕ → Bool → Bool → List Test
-splitTests split count point lengths unreduced =
-    (split gives Split)
-    ∷ (notPower count gives NotPower)
-    ∷ (tooManyVariables count || tooMany point gives TooMany)
-    ∷ (lengths gives Lengths)
-    ∷ (unreduced gives Unreduced)
-    ∷ []
 
 -- both tables of the point, with the scale
 abbrev pub bothTables : List ℕ → Element → List ℕ
@@ -44,27 +33,31 @@ abbrev pub remains : List ℕ → List ℕ → ℕ
 remains table point = variables (length table) - entries point
 
 -- Split folds: 1, 2, 3, 4 (also k above n, work, out), 5
-unfoldable pub foldAnswer : List ℕ → List ℕ → Element → List ℕ → List ℕ → Verdict
-foldAnswer table point scale work out =
-    verdict
-    (splitTests (splits point || splits work || splits out) (length table) point
+abbrev pub foldTests : Bool → List ℕ → List ℕ → Element → List ℕ → List ℕ → List Test
+foldTests split table point scale work out =
+    entryTests split (length table) point
     (ltb (variables (length table)) (entries point) || workDiffers work (entries point) || rowsDiffer out (remains table point))
-    (unreduced p table || unreduced p point || unreduced p (scale .c)))
+    (unreduced p table || unreduced p point || unreduced p (scale .c))
+
+unfoldable pub foldAnswer : List ℕ → List ℕ → Element → List ℕ → List ℕ → Verdict
+foldAnswer table point scale work out = verdict (foldTests (splits point || splits work || splits out) table point scale work out)
 
 unfoldable pub foldWork : List ℕ → List ℕ → Element → List ℕ → List ℕ → List ℕ
 foldWork table point scale work out = leaves (foldAnswer table point scale work out) (bothTables point scale) work
 
--- out has the fold, place by place, on the prefix or the suffix side, by plain or shifted weights
+-- the fold, place by place, on the prefix or the suffix side, by plain or shifted weights
+abbrev pub folded : Side → Weight → List ℕ → List ℕ → Element → List ℕ
+folded side weight table point scale =
+    tableWords (2 ^ remains table point)
+    (foldAt field side weight (2 ^ remains table point) (pointOf point) (fromWords scale) (baseAt table))
+
 unfoldable pub foldOut : Side → Weight → List ℕ → List ℕ → Element → List ℕ → List ℕ → List ℕ
-foldOut side weight table point scale work out =
-    leaves (foldAnswer table point scale work out)
-    (tableWords (2 ^ remains table point)
-    (foldAt field side weight (2 ^ remains table point) (pointOf point) (fromWords scale) (baseAt table))) out
+foldOut side weight table point scale work out = leaves (foldAnswer table point scale work out) (folded side weight table point scale) out
 
 -- Evaluations: 1, 2, 3, 4 (also work), 5; k = n
 abbrev pub valueTests : Bool → ℕ → List ℕ → List ℕ → Element → List ℕ → List Test
 valueTests split count table point scale work =
-    splitTests split count point (not (eqb (variables count) (entries point)) || workDiffers work (entries point))
+    entryTests split count point (not (eqb (variables count) (entries point)) || workDiffers work (entries point))
     (unreduced p table || unreduced p point || unreduced p (scale .c))
 
 -- of a table of base words
@@ -114,7 +107,7 @@ lastWork point scale work = leaves (verdict (lastTests point scale work)) (bothT
 unfoldable pub accumulateAnswer : List ℕ → Element → Element → List ℕ → List ℕ → Verdict
 accumulateAnswer point scale given work out =
     verdict
-    (splitTests (splits point || splits work || splits out) (entries out) point
+    (entryTests (splits point || splits work || splits out) (entries out) point
     (not (eqb (variables (entries out)) (entries point)) || workDiffers work (entries point))
     (unreduced p out || unreduced p point || (unreduced p (scale .c) || unreduced p (given .c))))
 

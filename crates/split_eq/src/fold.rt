@@ -5,7 +5,6 @@
 //
 // A shifted weight is the eq of the row before. So a shifted fold is a plain one of the rows from the second on, the last row's weight
 // being left out, and the pair at the edge of an eq0 block is a pair like every other.
-use crate::tests;
 use field::Element;
 use multilinear::Side;
 use table::Verdict;
@@ -116,7 +115,7 @@ fn test_fold(table: &[u32], point: &[u32], scale: Element, work: &[u32], out: &[
     let lengths = table::either(above, table::rows_differ(out, table::remaining(n, k)));
     let tables = table::either(field::unreduced(table), field::unreduced(point));
     let unreduced = table::either(tables, field::unreduced(&words));
-    tests::test(split, table.len(), point, lengths, unreduced)
+    table::test_entries(split, table.len(), point, lengths, unreduced)
 }
 
 // Few places that are many rows each are summed place by place, and the places of long rows row by row.

@@ -5,5 +5,4 @@
 // The two tables stand in the work buffer: eq0 with the scale, then eq1. It holds them after every accepted call.
 pub mod fold;
 pub mod scalar;
-mod tests;
 pub mod value;

@@ -1,5 +1,4 @@
 // The weights themselves: the last row's, and all of them added to a table.
-use crate::tests;
 use field::Element;
 use table::Evaluation;
 use table::Refusal;
@@ -79,5 +78,5 @@ fn test_accumulate(
     let lengths = table::either(table::variables(count) != k, work::differs(work, k));
     let tables = table::either(field::unreduced(out), field::unreduced(point));
     let scales = table::either(field::unreduced(&own), field::unreduced(&other));
-    tests::test(split, count, point, lengths, table::either(tables, scales))
+    table::test_entries(split, count, point, lengths, table::either(tables, scales))
 }

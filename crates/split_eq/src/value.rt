@@ -1,5 +1,4 @@
 // Values with a scale. A table of no variable has its constant, and the next value of one variable its entry 1, without the scale.
-use crate::tests;
 use field::Element;
 use table::Evaluation;
 use table::Verdict;
@@ -81,7 +80,7 @@ fn test_value(
     let lengths = table::either(table::variables(count) != k, work::differs(work, k));
     let tables = table::either(field::unreduced(table), field::unreduced(point));
     let unreduced = table::either(tables, field::unreduced(&words));
-    tests::test(split, count, point, lengths, unreduced)
+    table::test_entries(split, count, point, lengths, unreduced)
 }
 
 fn scaled_value(table: &[u32], point: &[u32], n: usize, scale: Element) -> Element

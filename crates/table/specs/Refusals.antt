@@ -1,6 +1,6 @@
 -- Refused calls (document 01, "Refused calls, by operation"). Assumes nothing.
 use Prim.Native.Nat.{ℕ, _^_, _%_}
-use mathlib.Core.Bool.{Bool, not, cond}
+use mathlib.Core.Bool.{Bool, not, cond, _||_}
 use mathlib.Core.List.{List, [], _∷_}
 use lib.Dec.{eqb, ltb}
 use lib.Count.{ones, trailingZeros}
@@ -85,3 +85,13 @@ variables n = trailingZeros 64 n
 -- 3: over 20 variables
 abbrev pub tooManyVariables : ℕ → Bool
 tooManyVariables n = ltb most (variables n)
+
+-- 1, 2, 3, 4, 5 for a table of `count` entries and a point
+abbrev pub entryTests : Bool → ℕ → List ℕ → Bool → Bool → List Test
+entryTests split count point lengths unreduced =
+    (split gives Split)
+    ∷ (notPower count gives NotPower)
+    ∷ (tooManyVariables count || tooMany point gives TooMany)
+    ∷ (lengths gives Lengths)
+    ∷ (unreduced gives Unreduced)
+    ∷ []

@@ -12,7 +12,7 @@ ghost use lib.ListN.{length, replicate};
 ghost use Rattle.algebra.specs.Words.{unreduced};
 ghost use Rattle.field.specs.Field.{p, Holds};
 ghost use Rattle.table.specs.Table.{getAt, putAt, elementAt, entries};
-ghost use Rattle.table.specs.Refusals.{answer, splits, tooMany, rowsDiffer, most, notPower, variables, tooManyVariables};
+ghost use Rattle.table.specs.Refusals.{verdict, answer, splits, tooMany, rowsDiffer, most, notPower, variables, tooManyVariables, entryTests};
 ghost use Rattle.table.specs.Inner.{refuseIf};
 
 // The most variables of a table, and coordinates of a point.
@@ -144,6 +144,25 @@ pub fn too_many_variables(n: usize) -> bool
     ensures { λ r. ⌜ r ≡ tooManyVariables n ⌝ }
 {
     MOST < variables(n)
+}
+
+// 1, 2, 3, 4, 5 for a table of `count` entries and a point.
+pub fn test_entries(
+    split: bool,
+    count: usize,
+    point: &[u32],
+    lengths: bool,
+    unreduced: bool,
+) -> Verdict
+    ensures { λ r. ⌜ r ≡ verdict (entryTests split count (now (point .entry)) lengths unreduced) ⌝ }
+{
+    let many = either(too_many_variables(count), too_many(point));
+    Verdict::Accepted
+        .refuse_if(split, Refusal::Split)
+        .refuse_if(not_power(count), Refusal::NotPower)
+        .refuse_if(many, Refusal::TooMany)
+        .refuse_if(lengths, Refusal::Lengths)
+        .refuse_if(unreduced, Refusal::Unreduced)
 }
 
 // The smaller of two numbers, a less what it is above b.

@@ -3,7 +3,6 @@ use Prim.Native.Nat.{ℕ, _+_, _-_, _/_, _^_}
 use mathlib.Core.Bool.{Bool, not}
 use mathlib.Core.List.{List, _++_}
 use lib.Dec.{eqb}
-use Rattle.algebra.specs.Ring.{Ops}
 use Rattle.multilinear.specs.Equality.{eqAt}
 use Rattle.field.specs.Field.{Ext, field}
 use Rattle.table.specs.Table.{tableWords, entries, elements}

@@ -26,7 +26,7 @@ module _ (at : tie.At-loop Inv-loop μ-loop) where
   begin = split .before .before .before
 
   cut : Cut (begin .args .n) (split .smaller .result) (at .before .before .rows .result) (at .before .rows2 .result)
-  cut = record { few = split .smaller .ensures .0; rows-are = at .before .before .rows .ensures; end-is = at .before .rows2 .ensures }
+  cut = record { few = omega (arith, split .smaller .ensures); rows-are = at .before .before .rows .ensures; end-is = at .before .rows2 .ensures }
 
 at-row-requires : tie.Need-at-row-requires Inv-loop μ-loop
 at-row-requires c κs =
@@ -48,7 +48,7 @@ add-block-requires c κs =
     let at = test .before in
     let pre = begin at .pre in (
       (rw (joined (cut at)) (pre .0 .0), mul .mul .ensures .below),
-      (split at .smaller .ensures .1, room _ _ _ (cut at) _ _ _ (at .loop .inv .1) (test .loop-test .taken) (pre .1)),
+      (omega (arith, split at .smaller .ensures), room _ _ _ (cut at) _ _ _ (at .loop .inv .1) (test .loop-test .taken) (pre .1)),
     )
 
 loop-again : tie.Need-loop-again Inv-loop μ-loop

@@ -14,7 +14,7 @@ returns c =
     let split = above .before .before in
     let operands = split .before .before in
     rw (
-      c .test .ensures,
+      c .test-entries .ensures,
       unreduced .either6 .ensures,
       unreduced .before .unreduced3 .ensures,
       tables .either5 .ensures,

@@ -16,7 +16,7 @@ returns c =
     let split = lengths .before .before .before in
     let operands = split .before .before in
     rw (
-      c .test .ensures,
+      c .test-entries .ensures,
       below .either6 .ensures,
       scales .either5 .ensures,
       given .unreduced4 .ensures,

@@ -10,7 +10,7 @@ returns c =
     let tables = scale .before .before in
     let lengths = tables .before .before .before in
     rw (
-      c .test .ensures,
+      c .test-entries .ensures,
       below .either3 .ensures,
       scale .unreduced3 .ensures,
       tables .either2 .ensures,

@@ -1,8 +1,8 @@
--- `split_eq::tests::test` meets its contract: the tests one by one. Assumes nothing.
+-- `table::test_entries` meets its contract: the tests one by one. Assumes nothing.
 use borrow.Author.Needs.{needs}
 use Rattle.table.proofs.Verdicts.{gone-through}
-use Rattle.split_eq.proofs.tests.test.Statement.{statement}
-use Rattle.split_eq.proofs.tests.test.Tie as tie
+use Rattle.table.proofs.test_entries.Statement.{statement}
+use Rattle.table.proofs.test_entries.Tie as tie
 
 returns : tie.Need-returns
 returns c =
@@ -22,8 +22,8 @@ returns c =
       many .before .before .too-many-variables .ensures,
     ))
 
-pub test-spec : {M : Type 1} → statement M
-test-spec =
+pub test-entries-spec : {M : Type 1} → statement M
+test-entries-spec =
     tie.close
     (tie.spec
     (search needs)

@@ -1,0 +1,32 @@
+-- How the operations agree, for readers: what a fold session leaves is what the one-call folds leave, and on next weight the sum against
+-- the table that `new_next_from_point` fills. No contract cites it. Assumes nothing.
+use mathlib.Core.Path.{_≡_}
+use Prim.Native.Nat.{ℕ, _^_, _<_}
+use mathlib.Core.List.{List}
+use lib.ListN.{length, getD}
+use Rattle.algebra.specs.Sum.{sumTo}
+use Rattle.multilinear.specs.declared.Weight.the-variants.{Next}
+use Rattle.multilinear.specs.Folds.{wordOf}
+use Rattle.field.specs.Field.{field, base, fromWords}
+use Rattle.table.specs.Table.{elementAt, entries}
+use Rattle.table.specs.declared.Verdict.the-variants.{Accepted}
+use Rattle.point.specs.Point.{tableAnswer}
+use Rattle.poly.specs.Poly.{nextOut}
+use Rattle.split_eq.specs.Split.{foldAnswer, foldOut}
+use Rattle.session.specs.Session.{Args, openAnswer}
+use Rattle.session.specs.Ledger.{Call, innerOf, joined}
+use Rattle.session.specs.Demand3.{answers, after}
+
+pub record Agreement : Type 0 where
+  -- a table fed in any pieces leaves what the one-call fold leaves, in an out of as many words
+  pub one-call : (a : Args) (out : List ℕ) (cs : List Call) (work out′ : List ℕ) → length out′ ≡ length out → openAnswer a out ≡ Accepted
+      → foldAnswer (joined cs (answers a out cs)) (a .point) (a .scale) work out′ ≡ Accepted
+      → after a out cs .out ≡ foldOut (a .side) (a .weight) (joined cs (answers a out cs)) (a .point) (a .scale) work out′
+  -- on next weight each place is the sum over the rows y of scale·next[y]·(word of place i of row y), next being the table that
+  -- `new_next_from_point` fills, and a word not joined being 0
+  pub next : (a : Args) (out : List ℕ) (cs : List Call) (table : List ℕ) → a .weight ≡ Next → openAnswer a out ≡ Accepted
+      → tableAnswer (a .point) table ≡ Accepted → (i : ℕ) → i < innerOf a
+      → elementAt (after a out cs .out) i
+      ≡ sumTo field (2 ^ entries (a .point))
+      (λ y. field .mul (field .mul (fromWords (a .scale)) (elementAt (nextOut (a .point) table) y))
+      (base (getD (joined cs (answers a out cs)) (wordOf (a .side) (innerOf a) (2 ^ entries (a .point)) i y) 0)))
