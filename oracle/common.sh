@@ -14,12 +14,28 @@ need_rust() {
     fi
 }
 
-# Fails where there is no archive of the proved operations.
-need_archive() {
-    if [ ! -f "${HOST_LIB_DIR:-$root/target/staticlib}/libhost.a" ]; then
-        echo "target/staticlib/libhost.a is missing: run \`rt staticlib host\` first" >&2
+# Fails where the file $1 is missing, saying which command makes it ($2).
+need() {
+    if [ ! -f "$1" ]; then
+        echo "${1#"$root"/} is missing: run \`$2\` first" >&2
         exit 1
     fi
+}
+
+# Fails where there is no archive of the operations on words.
+need_host() {
+    need "${HOST_LIB_DIR:-$root/target/staticlib}/libhost.a" "rt staticlib host"
+}
+
+# Fails where there is no archive of the ward's calls.
+need_ward() {
+    need "${WARD_LIB_DIR:-$root/target/staticlib}/libward.a" "rt staticlib ward"
+}
+
+# Fails where there is no program for frames; names it for the comparison.
+need_foldframes() {
+    export FOLDFRAMES=${FOLDFRAMES:-$root/target/bin/foldframes}
+    need "$FOLDFRAMES" "rt check foldframes"
 }
 
 # Builds the program $1 and runs it with the other arguments.

@@ -4,3 +4,4 @@ pub mod RowByRow
 pub mod PlaceSums
 pub mod PlaceByPlace
 pub mod BySide
+pub mod Joining

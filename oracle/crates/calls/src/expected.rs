@@ -5,23 +5,23 @@ use crate::rust::Arm;
 use crate::{Call, Slice};
 
 /// What a call answers, and what it leaves in the slices lent to it.
-#[derive(PartialEq)]
-pub struct Outcome<const N: usize> {
+#[derive(Clone, PartialEq)]
+pub struct Outcome<const N: usize, T = u32> {
     pub answer: u32,
-    pub lent: [Vec<u32>; N],
+    pub lent: [Vec<T>; N],
 }
 
 /// The expected outcome: the first refusal whose test holds, and then the lent
 /// slices as they were; otherwise 0 and the slices that `accepted` gives.
-pub fn expect<const N: usize>(
+pub fn expect<const N: usize, T: Clone>(
     refusals: &[(bool, u32)],
-    before: [&[u32]; N],
-    accepted: impl FnOnce() -> [Vec<u32>; N],
-) -> Outcome<N> {
+    before: [&[T]; N],
+    accepted: impl FnOnce() -> [Vec<T>; N],
+) -> Outcome<N, T> {
     match refusals.iter().find(|(holds, _)| *holds) {
         Some(&(_, answer)) => Outcome {
             answer,
-            lent: before.map(<[u32]>::to_vec),
+            lent: before.map(<[T]>::to_vec),
         },
         None => Outcome {
             answer: 0,

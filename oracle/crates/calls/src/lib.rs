@@ -15,7 +15,7 @@ pub use damage::{Damage, Place};
 pub use expected::{Outcome, expect};
 pub use operation::{Operation, Slice};
 pub use random::{LIMITS, Random, UNREDUCED};
-pub use refusals::{MOST, entries, rows, splits, unreduced};
+pub use refusals::{MOST, Tests, entries, rows, splits, unreduced};
 
 use Operation::*;
 

@@ -3,36 +3,63 @@
 use Operation::*;
 use Slice::*;
 
-/// The operations, numbered from 1 as in the sample.
-#[derive(Clone, Copy, PartialEq, Eq)]
-pub enum Operation {
-    EqualityAtVertex = 1,
-    EqualityWeightsMsb,
-    EqualityWeightsLsb,
-    EvalEq,
-    EvalNext,
-    EvalSelect,
-    NewFromPoint,
-    NewNextFromPoint,
-    EvalEqBatch,
-    EvalEqBatchAdd,
-    PolyEvalBase,
-    PolyEvalExt,
-    PolyEvalNextBase,
-    SplitEvalBase,
-    SplitEvalExt,
-    SplitEvalNextBase,
-    LastScalar,
-    AccumulateInto,
-    CompressPrefix,
-    CompressSuffix,
-    CompressPrefixShifted,
-    CompressSuffixShifted,
-    FixPrefixVarMut,
-    FixSuffixVarMut,
-    FixPrefixVarMutMonomial,
-    SumPrefixVarMut,
+/// Hands the operations to the macro `$with`: the number in the sample, the name
+/// here and in `host`, and what the call through C takes.
+#[macro_export]
+macro_rules! operations {
+    ($with:ident) => {
+        $with! {
+            1: EqualityAtVertex = equality_at_vertex(a, number, out);
+            2: EqualityWeightsMsb = equality_weights_msb(a, out);
+            3: EqualityWeightsLsb = equality_weights_lsb(a, out);
+            4: EvalEq = eval_eq(a, b, out);
+            5: EvalNext = eval_next(a, b, out);
+            6: EvalSelect = eval_select(a, word, out);
+            7: NewFromPoint = new_from_point(a, b, out);
+            8: NewNextFromPoint = new_next_from_point(a, out);
+            9: EvalEqBatch = eval_eq_batch(a, b, number, out);
+            10: EvalEqBatchAdd = eval_eq_batch_add(a, b, number, out);
+            11: PolyEvalBase = poly_eval_base(a, b, out);
+            12: PolyEvalExt = poly_eval_ext(a, b, out);
+            13: PolyEvalNextBase = poly_eval_next_base(a, b, out);
+            14: SplitEvalBase = split_eval_base(a, b, c, work, out);
+            15: SplitEvalExt = split_eval_ext(a, b, c, work, out);
+            16: SplitEvalNextBase = split_eval_next_base(a, b, c, work, out);
+            17: LastScalar = last_scalar(a, b, work, out);
+            18: AccumulateInto = accumulate_into(a, b, c, work, out);
+            19: CompressPrefix = compress_prefix(a, b, c, work, out);
+            20: CompressSuffix = compress_suffix(a, b, c, work, out);
+            21: CompressPrefixShifted = compress_prefix_shifted(a, b, c, work, out);
+            22: CompressSuffixShifted = compress_suffix_shifted(a, b, c, work, out);
+            23: FixPrefixVarMut = fix_prefix_var_mut(a, work, out);
+            24: FixSuffixVarMut = fix_suffix_var_mut(a, work, out);
+            25: FixPrefixVarMutMonomial = fix_prefix_var_mut_monomial(a, work, out);
+            26: SumPrefixVarMut = sum_prefix_var_mut(work, out);
+        }
+    };
 }
+
+macro_rules! names {
+    ($($number:literal: $operation:ident = $name:ident $arguments:tt;)*) => {
+        #[derive(Clone, Copy, PartialEq, Eq)]
+        pub enum Operation {
+            $($operation = $number,)*
+        }
+
+        impl Operation {
+            pub const ALL: &[Self] = &[$($operation),*];
+
+            /// The C name.
+            pub fn name(self) -> &'static str {
+                match self {
+                    $($operation => concat!("host_", stringify!($name)),)*
+                }
+            }
+        }
+    };
+}
+
+operations!(names);
 
 /// The places of a call's slices: three that are read, and two that are lent.
 #[derive(Clone, Copy, PartialEq, Eq)]
@@ -50,67 +77,6 @@ impl Slice {
 }
 
 impl Operation {
-    pub const ALL: [Self; 26] = [
-        EqualityAtVertex,
-        EqualityWeightsMsb,
-        EqualityWeightsLsb,
-        EvalEq,
-        EvalNext,
-        EvalSelect,
-        NewFromPoint,
-        NewNextFromPoint,
-        EvalEqBatch,
-        EvalEqBatchAdd,
-        PolyEvalBase,
-        PolyEvalExt,
-        PolyEvalNextBase,
-        SplitEvalBase,
-        SplitEvalExt,
-        SplitEvalNextBase,
-        LastScalar,
-        AccumulateInto,
-        CompressPrefix,
-        CompressSuffix,
-        CompressPrefixShifted,
-        CompressSuffixShifted,
-        FixPrefixVarMut,
-        FixSuffixVarMut,
-        FixPrefixVarMutMonomial,
-        SumPrefixVarMut,
-    ];
-
-    /// The C name.
-    pub fn name(self) -> &'static str {
-        match self {
-            EqualityAtVertex => "host_equality_at_vertex",
-            EqualityWeightsMsb => "host_equality_weights_msb",
-            EqualityWeightsLsb => "host_equality_weights_lsb",
-            EvalEq => "host_eval_eq",
-            EvalNext => "host_eval_next",
-            EvalSelect => "host_eval_select",
-            NewFromPoint => "host_new_from_point",
-            NewNextFromPoint => "host_new_next_from_point",
-            EvalEqBatch => "host_eval_eq_batch",
-            EvalEqBatchAdd => "host_eval_eq_batch_add",
-            PolyEvalBase => "host_poly_eval_base",
-            PolyEvalExt => "host_poly_eval_ext",
-            PolyEvalNextBase => "host_poly_eval_next_base",
-            SplitEvalBase => "host_split_eval_base",
-            SplitEvalExt => "host_split_eval_ext",
-            SplitEvalNextBase => "host_split_eval_next_base",
-            LastScalar => "host_last_scalar",
-            AccumulateInto => "host_accumulate_into",
-            CompressPrefix => "host_compress_prefix",
-            CompressSuffix => "host_compress_suffix",
-            CompressPrefixShifted => "host_compress_prefix_shifted",
-            CompressSuffixShifted => "host_compress_suffix_shifted",
-            FixPrefixVarMut => "host_fix_prefix_var_mut",
-            FixSuffixVarMut => "host_fix_suffix_var_mut",
-            FixPrefixVarMutMonomial => "host_fix_prefix_var_mut_monomial",
-            SumPrefixVarMut => "host_sum_prefix_var_mut",
-        }
-    }
-
     /// The names of its slices, empty where there is none.
     pub fn slices(self) -> [&'static str; 5] {
         match self {

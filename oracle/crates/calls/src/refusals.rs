@@ -11,7 +11,7 @@ pub const MOST: u64 = 20;
 const MOST_POINTS: u64 = 64;
 
 /// Tests in document 01's order, each with the refusal where it holds.
-type Tests = Vec<(bool, u32)>;
+pub type Tests = Vec<(bool, u32)>;
 
 impl Call {
     pub fn refusals(&self) -> Tests {

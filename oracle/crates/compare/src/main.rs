@@ -1,19 +1,25 @@
-//! Compares the proved operations with the stand-ins and with the Rust crate.
+//! Compares the proved operations with the stand-ins and with the Rust crate,
+//! the ward's calls with those on words, and foldframes with the fold session.
 //!
 //!     compare [--long] [--seed N]
 
 mod batch;
+mod cases;
 mod changes;
 mod elements;
 mod fixing;
 mod folds;
+mod frames;
+mod met;
 mod operation;
 mod points;
 mod run;
 mod sessions;
 mod step;
 mod tables;
+mod through_c;
 mod values;
+mod wards;
 
 use std::time::{SystemTime, UNIX_EPOCH};
 use std::{env, process};
@@ -44,6 +50,8 @@ fn main() {
     folds::compare(&mut run);
     fixing::compare(&mut run);
     sessions::compare(&mut run);
+    wards::compare(&mut run);
+    frames::compare(&mut run);
     run.finish();
 }
 

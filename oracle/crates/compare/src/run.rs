@@ -1,13 +1,13 @@
 //! The frame of a comparison: seeded input, counted cases, and a stop at the
 //! first difference.
 
-use std::fmt;
+use std::fmt::{self, Debug, Display};
 use std::process;
 use std::time::Instant;
 
 use calls::{Outcome, Random};
 
-use Input::{Number, Words};
+use Input::{Bytes, Number, Text, Words};
 
 pub struct Run {
     pub random: Random,
@@ -21,6 +21,8 @@ pub struct Run {
 #[derive(Clone, Copy)]
 pub enum Input<'a> {
     Words(&'a [u32]),
+    Bytes(&'a [u8]),
+    Text(&'a [u8]),
     Number(u64),
 }
 
@@ -54,34 +56,34 @@ impl Run {
 
     /// One case. A difference from one of those expected is printed with its
     /// input and ends the run.
-    pub fn same<const N: usize>(
+    pub fn same<const N: usize, T: PartialEq + Debug>(
         &mut self,
         inputs: &[(&str, Input)],
-        expected: &[Outcome<N>],
-        got: &Outcome<N>,
+        expected: &[Outcome<N, T>],
+        got: &Outcome<N, T>,
     ) {
         self.cases += 1;
-        let Some(arm) = expected.iter().position(|expected| expected != got) else {
+        let Some(way) = expected.iter().position(|expected| expected != got) else {
             return;
         };
-        let (arms, expected) = (expected.len(), &expected[arm]);
+        let (ways, expected) = (expected.len(), &expected[way]);
         println!("{}: case {} differs", self.operation, self.cases);
-        if arms > 1 {
-            println!("  from arm {} of the Rust's {arms}", arm + 1);
+        if ways > 1 {
+            println!("  from what is expected in way {} of {ways}", way + 1);
         }
         for (name, input) in inputs {
             println!("  {name} = {input}");
         }
         for (name, outcome) in [("expected", expected), ("got     ", got)] {
             print!("  {name} answer {}", outcome.answer);
-            for words in &outcome.lent {
-                print!(", {}", Words(words));
+            for slice in &outcome.lent {
+                print!(", {}", Shown(slice));
             }
             println!();
         }
         for (i, (expected, got)) in expected.lent.iter().zip(&got.lent).enumerate() {
             if let Some(at) = (0..got.len()).find(|&at| expected.get(at) != got.get(at)) {
-                println!("  lent slice {i} differs first at word {at}");
+                println!("  lent slice {i} differs first at place {at}");
             }
         }
         process::exit(1);
@@ -94,11 +96,11 @@ impl Run {
 }
 
 /// The outcome of a call that is lent copies of these slices.
-pub fn call<const N: usize>(
-    before: [&[u32]; N],
-    operation: impl FnOnce([&mut [u32]; N]) -> u32,
-) -> Outcome<N> {
-    let mut lent = before.map(<[u32]>::to_vec);
+pub fn call<const N: usize, T: Clone>(
+    before: [&[T]; N],
+    operation: impl FnOnce([&mut [T]; N]) -> u32,
+) -> Outcome<N, T> {
+    let mut lent = before.map(<[T]>::to_vec);
     let answer = operation(lent.each_mut().map(Vec::as_mut_slice));
     Outcome { answer, lent }
 }
@@ -121,17 +123,37 @@ pub fn choices<T: Copy>(kinds: &[T], places: usize, most: usize) -> impl Iterato
     })
 }
 
-/// The words of a long slice that are printed.
+/// The places of a long slice that are printed, and the bytes of a long text.
 const SHOWN: usize = 64;
+const SHOWN_TEXT: usize = 2_000;
 
-impl fmt::Display for Input<'_> {
+/// A slice, of which the first places are printed.
+struct Shown<'a, T>(&'a [T]);
+
+impl<T: Debug> Display for Shown<'_, T> {
+    fn fmt(&self, f: &mut fmt::Formatter) -> fmt::Result {
+        let count = self.0.len();
+        match self.0.get(..SHOWN) {
+            Some(first) if count > SHOWN => write!(f, "{first:?} and so on, {count} places"),
+            _ => write!(f, "{:?}", self.0),
+        }
+    }
+}
+
+impl Display for Input<'_> {
     fn fmt(&self, f: &mut fmt::Formatter) -> fmt::Result {
         match *self {
             Number(number) => write!(f, "{number}"),
-            Words(words) if words.len() > SHOWN => {
-                write!(f, "{:?} and so on, {} words", &words[..SHOWN], words.len())
+            Words(words) => Shown(words).fmt(f),
+            Bytes(bytes) => Shown(bytes).fmt(f),
+            Text(text) => {
+                for line in
+                    text[..text.len().min(SHOWN_TEXT)].split_inclusive(|&byte| byte == b'\n')
+                {
+                    write!(f, "\n    {}", line.escape_ascii())?;
+                }
+                write!(f, "\n    {} bytes", text.len())
             }
-            Words(words) => write!(f, "{words:?}"),
         }
     }
 }

@@ -1,11 +1,9 @@
 //! The fold session: tables fed in pieces, with refused calls among them.
 
-use std::collections::BTreeSet;
-use std::process;
-
 use calls::{Outcome, Random, expect};
 
 use crate::changes::{OPEN, OPENED};
+use crate::met::Met;
 use crate::run::Input::{Number, Words};
 use crate::run::{Input, Run, call};
 use crate::step::Kind::{Close, Feed, Open};
@@ -18,16 +16,18 @@ const REFUSALS: [(Kind, &[u32]); 3] = [
     (Close, &[11, 10, 4, 5, 9]),
 ];
 
+/// A session closed with words missing is broken: none meets 10 before 9.
+const EXCLUSIVE: [(u32, u32); 1] = [(10, 9)];
+
 struct Sessions<'a> {
     run: &'a mut Run,
-    /// The refusals that some call met, the first before the second, or one
-    /// alone as a pair with itself.
-    met: BTreeSet<(Kind, u32, u32)>,
+    /// By kind of call, and whether its words are a session's.
+    met: Met<(Kind, bool)>,
 }
 
 pub fn compare(run: &mut Run) {
     run.operation("host_session_open, _feed, _close", |run| {
-        let met = BTreeSet::new();
+        let met = Met::new();
         let mut sessions = Sessions { run, met };
         for n in 0..=8 {
             for k in 0..=n {
@@ -44,7 +44,10 @@ pub fn compare(run: &mut Run) {
         }
         // The most coordinates: none is unused.
         sessions.session((20, 20), 0, 2, Some(1 << 19));
-        sessions.all_met();
+        for (kind, refusals) in REFUSALS {
+            sessions.met.demand((kind, true), refusals, &EXCLUSIVE);
+            sessions.met.demand((kind, false), &[NO_SESSION], &[]);
+        }
     });
 }
 
@@ -118,15 +121,8 @@ impl Sessions<'_> {
 
     fn case(&mut self, step: &Step) -> Outcome<2> {
         let refusals = step.refusals();
-        let holding: Vec<_> = refusals.iter().filter(|(holds, _)| *holds).collect();
-        match holding[..] {
-            [] => {}
-            [only] => _ = self.met.insert((step.kind, only.1, only.1)),
-            [first, ref others @ ..] => {
-                let pairs = others.iter().map(|other| (step.kind, first.1, other.1));
-                self.met.extend(pairs);
-            }
-        }
+        let is_session = refusals[0].1 != NO_SESSION;
+        self.met.note((step.kind, is_session), &refusals);
 
         let before = [&step.words[..], &step.out];
         let expected = expect(&refusals, before, || step.accepted());
@@ -148,24 +144,6 @@ impl Sessions<'_> {
         inputs.push(("table", Words(table)));
         let got = call([&step.out], |_| 0);
         self.run.same(&inputs, &step.folded(table), &got);
-    }
-
-    /// Every refusal must be met alone, and every two at once. A session closed
-    /// with words missing is broken: none meets 10 before 9.
-    fn all_met(&self) {
-        for (kind, refusals) in REFUSALS {
-            let mut wanted = vec![(NO_SESSION, NO_SESSION)];
-            for (i, &first) in refusals.iter().enumerate() {
-                wanted.extend(refusals[i..].iter().map(|&second| (first, second)));
-            }
-            wanted.retain(|&pair| pair != (10, 9));
-            for (first, second) in wanted {
-                if !self.met.contains(&(kind, first, second)) {
-                    println!("no call of {kind:?} met refusals {first} and {second}");
-                    process::exit(1);
-                }
-            }
-        }
     }
 }
 

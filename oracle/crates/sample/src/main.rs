@@ -32,7 +32,7 @@ fn main() {
     let mut long = BTreeSet::new();
     let mut text = String::new();
     let (mut records, mut refused) = (0, 0);
-    for operation in Operation::ALL {
+    for &operation in Operation::ALL {
         let whole = pick::whole(operation, &mut random);
         for call in [whole, pick::damaged(operation, &mut random)].concat() {
             let (words, answer) = record(&call);

@@ -1,0 +1,2 @@
+mod Keeping
+mod Cutting

@@ -1,0 +1,10 @@
+-- `frame::is_close` meets its contract. Assumes nothing.
+use borrow.Author.Needs.{needs}
+use borrow.Author.Tests.{eq-eqb, ne-eqb}
+use Rattle.frame.proofs.is_close.Statement.{statement}
+use Rattle.frame.proofs.is_close.Tie as tie
+
+pub is-close-spec : {M : Type 1} → statement M
+is-close-spec =
+    tie.close
+    (tie.spec (λ c. simp (ne-eqb _ _ (c .if1 .taken))) (search needs) (λ c. simp (eq-eqb _ _ (c .before .if1 .left))))

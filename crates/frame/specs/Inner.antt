@@ -1,0 +1,12 @@
+-- What the functions take and give. No exported operation's contract cites it. Assumes nothing.
+use mathlib.Core.Path.{_≡_}
+use mathlib.Core.Bool.{Bool, true, cond}
+use Prim.Native.Nat.{ℕ, _*_, _/_, _≤_}
+use mathlib.Core.List.{List}
+use lib.ListN.{length}
+use Rattle.frame.specs.Hex.{isHex}
+
+-- a line of digits, and a byte for each two
+pub record Spells (line bytes : List ℕ) : Type 0 where
+  pub hex : isHex line ≡ true
+  pub count : length bytes ≡ length line / 2

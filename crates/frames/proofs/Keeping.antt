@@ -1,0 +1,154 @@
+-- What every line finds holds before the first line, and an accepted line of each kind keeps it. Assumes nothing.
+use mathlib.Core.Path.{_≡_, refl, sym, ap, subst, _∙_}
+use mathlib.Core.Bool.{Bool, true, false}
+use Prim.Native.Nat.{ℕ, _-_, _*_, _^_, _≤_}
+use native.Mathlib.Omega.{arith}
+use mathlib.Core.List.{List}
+use lib.Dec.{ltb}
+use lib.ListN.{length, take, drop, replicate, length-append, length-drop, length-replicate}
+use lib.Pow.{pow-mono}
+use lib.Seq.{length-take-le}
+use Rattle.algebra.specs.Words.{unreduced}
+use Rattle.algebra.proofs.Words.{unreduced-append, unreduced-drop, unreduced-take, unreduced-zeros}
+use Rattle.field.specs.Field.{p, p-pos, Reduced}
+use Rattle.table.proofs.Laws.{table-length}
+use Rattle.table.proofs.Parts.{unreduced-put}
+use Rattle.table.proofs.Tests.{unreduced-table}
+use Rattle.session.specs.Session.{fed}
+use Rattle.table.specs.declared.Verdict.the-variants.{Accepted}
+use Rattle.frame.specs.declared.Kind.{Kind}
+use Rattle.frame.specs.declared.Kind.the-variants.{Open, Coordinate, Words, Close, NoFrame}
+use Rattle.frame.specs.Frame.{kindOf, indexOf, coordinateOf, wordsOf}
+use Rattle.frames.specs.declared.Phase.{Phase}
+use Rattle.frames.specs.declared.Phase.the-variants.{Done}
+use Rattle.frames.specs.declared.Reader.{Reader}
+use Rattle.frames.specs.Reader.{mostPlaces, lineAnswer, started, opened, noted, counted, taken, used, outBy}
+use Rattle.frames.specs.Inner.{Ready, InLimits, Takes, Adds}
+use Rattle.frames.proofs.Accepted.{Opens, opens, notes, Feeds, feeds}
+
+-- before the first line, with any out of reduced words
+pub at-start : (out : List ℕ) → length out ≡ 4 * 2 ^ mostPlaces → unreduced p out ≡ false → Ready started out
+unfolding started unreduced
+at-start out l h =
+    record {
+      small = omega arith;
+      fits = omega arith;
+      few = omega arith;
+      within = omega arith;
+      scale-is = record { words-below = refl };
+      below = unreduced-zeros p p-pos 80;
+      room = l;
+      out-below = h;
+    }
+
+-- the same with out's words all 0
+pub at-start-zeros : {out : List ℕ} → out ≡ replicate (4 * 2 ^ mostPlaces) 0 → Ready started out
+at-start-zeros e =
+    at-start _ (ap length e ∙ length-replicate {A = ℕ} (4 * 2 ^ mostPlaces) 0) (ap (unreduced p) e ∙ unreduced-zeros p p-pos (4 * 2 ^ mostPlaces))
+
+pub limits : {r : Reader} {out : List ℕ} → Ready r out → InLimits r
+limits d = record { small = d .small; fits = d .fits; within = d .within }
+
+module _ {r : Reader} {out : List ℕ} (d : Ready r out) where
+  -- the words of out that the session has
+  pub used-fits : used r ≤ length out
+  used-fits = omega (arith, d .room, pow-mono (d .few))
+
+  pub used-length : length (take (used r) out) ≡ used r
+  used-length = length-take-le (used r) out used-fits
+
+module _ (r : Reader) (bs out : List ℕ) (d : Ready r out) where
+  opened-keeps : Opens bs → Ready (opened bs) (replicate (length out) 0)
+  opened-keeps o =
+      record {
+        small = o .small;
+        fits = o .fits;
+        few = o .few;
+        within = omega arith;
+        scale-is = o .scale-is;
+        below = unreduced-zeros p p-pos 80;
+        room = length-replicate {A = ℕ} (length out) 0 ∙ d .room;
+        out-below = unreduced-zeros p p-pos (length out);
+      }
+
+  -- of the same session
+  same-keeps : (phase : Phase) (given : List ℕ) (beyond : Bool)
+      → Ready (record { phase = phase; session = r .session; given = given; beyond = beyond }) out
+  same-keeps phase given beyond =
+      record {
+        small = d .small;
+        fits = d .fits;
+        few = d .few;
+        within = d .within;
+        scale-is = d .scale-is;
+        below = d .below;
+        room = d .room;
+        out-below = d .out-below;
+      }
+
+  noted-keeps : Reduced (coordinateOf bs) → Ready (noted r bs) out
+  noted-keeps e = go (ltb (indexOf bs) (r .session .k)) refl
+    where
+      go : (t : Bool) → ltb (indexOf bs) (r .session .k) ≡ t → Ready (noted r bs) out
+      go true q =
+          rw q
+          (record {
+            small = d .small;
+            fits = d .fits;
+            few = d .few;
+            within = d .within;
+            scale-is = d .scale-is;
+            below = unreduced-put (r .session .coordinates) (indexOf bs) e (d .below);
+            room = d .room;
+            out-below = d .out-below;
+          })
+      go false q = rw q (same-keeps (r .phase) (r .given) true)
+
+  counted-keeps : Feeds r bs → Ready (counted r bs) (outBy Words r bs out)
+  counted-keeps f =
+      let s = r .session in
+      let new : List ℕ = fed s (wordsOf bs) (take (used r) out) .out in
+      let n : length new ≡ used r = table-length (2 ^ (s .n - s .k)) _ in
+      record {
+        small = d .small;
+        fits = d .fits;
+        few = d .few;
+        within = f .within;
+        scale-is = d .scale-is;
+        below = d .below;
+        room = length-append new (drop (used r) out) ∙ omega (arith, n, length-drop (used r) out, used-fits d, d .room);
+        out-below =
+            unreduced-append p new (drop (used r) out) (unreduced-table (2 ^ (s .n - s .k)) _)
+            (unreduced-drop p p-pos (used r) out (d .out-below));
+      }
+
+  -- what an `03` hands to the piece
+  pub adds : lineAnswer r bs ≡ Accepted → kindOf bs ≡ Words → Adds (r .session) (wordsOf bs) (take (used r) out)
+  adds a e =
+      let f = feeds r bs a e in
+      record {
+        small = d .small;
+        fits = d .fits;
+        within = f .within;
+        scale-is = d .scale-is;
+        coordinates-below = d .below;
+        words-below = f .below;
+        room = used-length d;
+        out-below = unreduced-take p p-pos (used r) out (d .out-below);
+      }
+
+-- an accepted line
+pub keeps : (k : Kind) {r : Reader} {bs out : List ℕ} → Takes r k bs out → Ready (taken k r bs) (outBy k r bs out)
+keeps Open {r} {bs} {out} t = opened-keeps r bs out (t .ready) (opens r bs (t .accepted) (sym (t .kind-is)))
+keeps Coordinate {r} {bs} {out} t = noted-keeps r bs out (t .ready) (notes r bs (t .accepted) (sym (t .kind-is)))
+keeps Words {r} {bs} {out} t = counted-keeps r bs out (t .ready) (feeds r bs (t .accepted) (sym (t .kind-is)))
+keeps Close {r} {bs} {out} t = same-keeps r bs out (t .ready) Done (r .given) (r .beyond)
+keeps NoFrame {r} {bs} {out} t = t .ready
+
+pub as-kind : {k kind : Kind} {r : Reader} {bs out : List ℕ} → kind ≡ k → Takes r kind bs out → Takes r k bs out
+as-kind {r = r} {bs = bs} {out = out} e t = subst (λ (j : Kind). Takes r j bs out) e t
+
+-- what the code of kind k gives
+pub took : (k : Kind) {kind : Kind} {r : Reader} {bs out : List ℕ} {x : Reader} {w : List ℕ} → kind ≡ k → Takes r kind bs out
+    → x ≡ taken k r bs → w ≡ outBy k r bs out → (x ≡ taken kind r bs) × ((w ≡ outBy kind r bs out) × Ready x w)
+took k e t f g = rw (e, f, g) (refl, (refl, keeps k (as-kind e t)))

@@ -1,0 +1,12 @@
+-- `frames::start` meets its contract. Assumes nothing.
+use borrow.Author.Needs.{needs}
+use Rattle.frames.specs.Reader.{started}
+use Rattle.frames.proofs.start.Statement.{statement}
+use Rattle.frames.proofs.start.Tie as tie
+
+returns : tie.Need-returns
+unfolding started
+returns c = rw (c .counts .ensures, c .before .session-of .ensures)
+
+pub start-spec : {M : Type 1} → statement M
+start-spec = tie.close (tie.spec (search needs) (search needs) returns)

@@ -1,0 +1,43 @@
+-- `frames::step_bytes` meets its contract: by the line's answer. Assumes nothing.
+use mathlib.Core.Path.{sym, _∙_}
+use borrow.Author.Needs.{needs}
+use Rattle.frames.proofs.Keeping.{limits}
+use Rattle.frames.proofs.Turns.{refused, accepted}
+use Rattle.frames.proofs.step_bytes.Statement.{statement}
+use Rattle.frames.proofs.step_bytes.Tie as tie
+
+take-requires : tie.Need-take-requires
+take-requires c κs =
+    let told = c .before in
+    let tested = told .before .before in
+    record {
+      ready = tested .before .before .before .before .pre;
+      kind-is = tested .before .kind-of .ensures;
+      accepted = sym (tested .test-line .ensures) ∙ told .enum-told .given .1;
+    }
+
+returns : tie.Need-returns
+returns c =
+    let told = c .before in
+    let tested = told .before .before in
+    refused _ _ _ (tested .test-line .ensures) (told .tested .given .1) (tested .before .before .before .before .pre)
+
+returns-2 : tie.Need-returns-2
+returns-2 c =
+    let took = c .before .before in
+    let told = took .before .before in
+    let tested = told .before .before in
+    accepted _ _ _ (tested .test-line .ensures) (told .enum-told .given .1) (tested .before .kind-of .ensures) (took .take .ensures)
+
+pub step-bytes-spec : {M : Type 1} → statement M
+step-bytes-spec =
+    tie.close
+    (tie.spec
+    (search needs)
+    (λ c κs. (limits (c .before .before .before .pre), c .kind-of .ensures))
+    (λ c. search needs)
+    (λ c. search needs)
+    take-requires
+    returns
+    (search needs)
+    returns-2)

@@ -1,0 +1,3 @@
+pub mod Reader
+pub mod Lines
+pub mod Inner

@@ -1,0 +1,4 @@
+pub mod Octets
+pub mod Inverse
+pub mod Decoding
+pub mod Encoding

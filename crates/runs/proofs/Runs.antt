@@ -1,0 +1,31 @@
+-- What holds after every list of lines (specs/Runs.antt). Assumes nothing.
+use mathlib.Core.Path.{_≡_, refl}
+use Prim.Native.Nat.{ℕ, _*_, _^_}
+use mathlib.Core.List.{List, []}
+use lib.ListN.{length}
+use Rattle.frames.specs.Reader.{mostPlaces}
+use Rattle.runs.specs.Runs.{start, after, wordsBy, elementBy, joined, given, Runs}
+use Rattle.runs.proofs.Steps.{lines-keep}
+use Rattle.runs.proofs.Counted.{Counted, counted-start, counted-keeps}
+use Rattle.runs.proofs.Folded.{Folded, folded-start, folded-keeps}
+use Rattle.runs.proofs.Given.{Given, given-start, given-keeps, given-once, given-none}
+
+counted : (ls : List (List ℕ)) (out : List ℕ) → Counted (after ls (start out)) (joined ls (start out))
+counted ls out = lines-keep wordsBy Counted counted-keeps joined (λ s. refl) (λ l ls s. refl) ls (start out) [] (counted-start out)
+
+folded : (ls : List (List ℕ)) (out : List ℕ) → length out ≡ 4 * 2 ^ mostPlaces → Folded (after ls (start out)) (joined ls (start out))
+folded ls out l = lines-keep wordsBy Folded folded-keeps joined (λ s. refl) (λ l ls s. refl) ls (start out) [] (folded-start out l)
+
+were-given : (i : ℕ) (ls : List (List ℕ)) (out : List ℕ) → Given i (after ls (start out) .reader) (given i ls (start out))
+were-given i ls out =
+    lines-keep (λ k bs. elementBy k i bs) (λ s es. Given i (s .reader) es) (given-keeps i) (given i) (λ s. refl) (λ l ls s. refl) ls
+    (start out) [] (given-start i)
+
+pub runs : Runs
+runs =
+    record {
+      folds = λ ls out l q. folded ls out l .folds q;
+      takes = λ ls out. counted ls out .count;
+      each-once = λ ls out z i h. given-once i _ _ (were-given i ls out) z h;
+      none-beyond = λ ls out z i h. given-none i _ _ (were-given i ls out) z h;
+    }

@@ -1,0 +1,8 @@
+mod Fronts
+mod Sizes
+mod Answers
+mod VertexOutcomes
+mod NextOutcomes
+mod Halves
+mod FoldOutcomes
+mod Folding

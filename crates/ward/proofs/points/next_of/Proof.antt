@@ -1,0 +1,26 @@
+-- `ward::points::next_of` meets its contract: the word call on the words of both. Assumes nothing.
+use mathlib.Core.Path.{ap₂, _∙_}
+use native.Mathlib.Omega.{arith}
+use borrow.Author.Needs.{needs}
+use lib.ListN.{length-take}
+use Rattle.point.specs.Point.{evalNextAnswer}
+use Rattle.ward.proofs.points.next_of.Statement.{statement}
+use Rattle.ward.proofs.points.next_of.Tie as tie
+
+returns : tie.Need-returns
+returns c =
+    let row = c .before .before .before in
+    c .eval-next .ensures ∙ ap₂ evalNextAnswer (row .before .coordinates .ensures) (row .coordinates2 .ensures)
+
+pub next-of-spec : {M : Type 1} → statement M
+next-of-spec =
+    tie.close
+    (tie.spec
+    (search needs)
+    (search needs)
+    (search needs)
+    (λ c. simp length-take (omega arith))
+    (search needs)
+    (λ c. simp length-take (omega arith))
+    (search needs)
+    returns)

@@ -1,0 +1,24 @@
+-- `ward::points::test_vertex` meets its contract: the tests one by one. Assumes nothing.
+use borrow.Author.Needs.{needs}
+use Rattle.octets.proofs.Octets.{words-length}
+use Rattle.table.proofs.Verdicts.{gone-through}
+use Rattle.ward.proofs.points.test_vertex.Statement.{statement}
+use Rattle.ward.proofs.points.test_vertex.Tie as tie
+
+returns : tie.Need-returns
+returns c =
+    let few = c .before in
+    let whole = few .before in
+    let args = whole .before .before .before .before .args in
+    gone-through _
+    (rw (
+      c .refuse-if3 .ensures,
+      few .refuse-if2 .ensures,
+      whole .refuse-if .ensures,
+      whole .before .either .ensures,
+      words-length (args .point .now),
+      words-length (args .out .now),
+    ))
+
+pub test-vertex-spec : {M : Type 1} → statement M
+test-vertex-spec = tie.close (tie.spec (search needs) (search needs) (search needs) (search needs) returns)

@@ -1,0 +1,36 @@
+-- `ward::shifted::compress` meets its contract: by the tests' verdict. Assumes nothing.
+use mathlib.Core.Path.{refl, sym, _∙_}
+use borrow.Author.Needs.{needs}
+use Rattle.ward.proofs.Folding.{answered}
+use Rattle.ward.proofs.shifted.compress.Statement.{statement}
+use Rattle.ward.proofs.shifted.compress.Tie as tie
+
+fold-requires : tie.Need-fold-requires
+fold-requires c κs =
+    let told = c .before .before in
+    record { accepted = sym (told .enum-told .given .1) ∙ told .before .before .test .ensures }
+
+returns : tie.Need-returns
+returns c = answered _ _ _ _ _ _ (sym (c .before .tested .given .1) ∙ c .before .before .before .test .ensures) refl refl
+
+returns-2 : tie.Need-returns-2
+returns-2 c =
+    let fold = c .before .before .before .before in
+    let told = fold .before .before .before in
+    answered _ _ _ _ _ _ (sym (told .enum-told .given .1) ∙ told .before .before .test .ensures) (fold .fold .ensures .0)
+    (fold .fold .ensures .1)
+
+pub compress-spec : {M : Type 1} → statement M
+compress-spec =
+    tie.close
+    (tie.spec
+    (search needs)
+    (λ c. search needs)
+    (λ c. search needs)
+    fold-requires
+    (search needs)
+    (search needs)
+    returns
+    (search needs)
+    (search needs)
+    returns-2)

@@ -1,0 +1,147 @@
+// The calls on points: at most 20 coordinates are decoded into an array of the function's own, and the word call does the rest.
+use field::Value;
+use point::next::Next;
+use table::Evaluation;
+use table::Refusal;
+use table::Verdict;
+ghost use mathlib.Core.Path.{_≡_};
+ghost use mathlib.Core.List.{_++_};
+ghost use Prim.Native.Nat.{_/_};
+ghost use lib.ListN.{length, take, replicate};
+ghost use Rattle.octets.specs.Octets.{words, octets};
+ghost use Rattle.table.specs.Refusals.{verdict};
+ghost use Rattle.point.specs.Point.{vertexAnswer as vertexOfWords, evalNextAnswer as nextOfWords};
+ghost use Rattle.ward.specs.Ward.{vertexAnswer, vertexOut, nextAnswer, nextOut};
+ghost use Rattle.ward.specs.Inner.{Few, valueWords, vertexSizes, nextSizes};
+
+pub fn equality_at_vertex(point: &[u8], vertex: usize, out: &mut [u8]) -> Verdict
+    ensures { λ r. ⌜ r ≡ vertexAnswer (now (point .entry)) vertex (now (out .entry)) ⌝ }
+    ensures { λ _. ⌜ now (out .exit) ≡ vertexOut (now (point .entry)) vertex (now (out .entry)) ⌝ }
+{
+    let tested = test_vertex(point, out);
+    match tested {
+        Verdict::Refused(refusal) => Verdict::Refused(refusal),
+        Verdict::Accepted => {
+            let evaluation = at_vertex(point, vertex);
+            match evaluation {
+                Evaluation::Refused(refusal) => Verdict::Refused(refusal),
+                Evaluation::Value(value) => {
+                    put_value(out, value);
+                    Verdict::Accepted
+                }
+            }
+        }
+    }
+}
+
+pub fn eval_next(point: &[u8], row: &[u8], out: &mut [u8]) -> Verdict
+    ensures { λ r. ⌜ r ≡ nextAnswer (now (point .entry)) (now (row .entry)) (now (out .entry)) ⌝ }
+    ensures { λ _. ⌜ now (out .exit) ≡ nextOut (now (point .entry)) (now (row .entry)) (now (out .entry)) ⌝ }
+{
+    let tested = test_next(point, row, out);
+    match tested {
+        Verdict::Refused(refusal) => Verdict::Refused(refusal),
+        Verdict::Accepted => {
+            let next = next_of(point, row);
+            match next {
+                Next::Refused(refusal) => Verdict::Refused(refusal),
+                Next::Parts { carry, done, omega } => {
+                    put_parts(out, carry, done, omega);
+                    Verdict::Accepted
+                }
+            }
+        }
+    }
+}
+
+// 1, 3, 4.
+fn test_vertex(point: &[u8], out: &[u8]) -> Verdict
+    ensures { λ r. ⌜ r ≡ verdict (vertexSizes (now (point .entry)) (now (out .entry))) ⌝ }
+{
+    let split = table::either(point.len() % 16 != 0, out.len() % 16 != 0);
+    Verdict::Accepted
+        .refuse_if(split, Refusal::Split)
+        .refuse_if(table::MOST < point.len() / 4 / 4, Refusal::TooMany)
+        .refuse_if(out.len() / 4 / 4 != 1, Refusal::Lengths)
+}
+
+// 1, 3, 4.
+fn test_next(point: &[u8], row: &[u8], out: &[u8]) -> Verdict
+    ensures { λ r. ⌜ r ≡ verdict (nextSizes (now (point .entry)) (now (row .entry)) (now (out .entry))) ⌝ }
+{
+    let points = table::either(point.len() % 16 != 0, row.len() % 16 != 0);
+    let split = table::either(points, out.len() % 16 != 0);
+    let k = point.len() / 4 / 4;
+    let many = table::either(table::MOST < k, table::MOST < row.len() / 4 / 4);
+    let lengths = table::either(k != row.len() / 4 / 4, out.len() / 4 / 4 != 3);
+    Verdict::Accepted
+        .refuse_if(split, Refusal::Split)
+        .refuse_if(many, Refusal::TooMany)
+        .refuse_if(lengths, Refusal::Lengths)
+}
+
+fn at_vertex(point: &[u8], vertex: usize) -> Evaluation
+    requires { ⌜ Few (now point) ⌝ }
+    ensures { λ r. ⌜ r ≡ vertexOfWords (words (now (point .entry))) vertex ⌝ }
+{
+    let n = point.len() / 4;
+    let zs = coordinates(point);
+    point::equality::equality_at_vertex(&zs[..n], vertex)
+}
+
+fn next_of(point: &[u8], row: &[u8]) -> Next
+    requires { ⌜ Few (now point) × Few (now row) ⌝ }
+    ensures { λ r. ⌜ r ≡ nextOfWords (words (now (point .entry))) (words (now (row .entry))) ⌝ }
+{
+    let n = point.len() / 4;
+    let m = row.len() / 4;
+    let zs = coordinates(point);
+    let ys = coordinates(row);
+    point::next::eval_next(&zs[..n], &ys[..m])
+}
+
+// The words of at most 20 coordinates, and zeros after them.
+pub fn coordinates(point: &[u8]) -> [u32; 80]
+    requires { ⌜ Few (now point) ⌝ }
+    ensures { λ r. ⌜ take (length (now (point .entry)) / 4) r ≡ words (now (point .entry)) ⌝ }
+{
+    let mut zs = room();
+    let n = point.len() / 4;
+    octets::decode(point, 0, &mut zs[..n]);
+    zs
+}
+
+fn put_value(out: &mut [u8], value: Value)
+    requires { ⌜ length (now out) ≡ 16 ⌝ }
+    ensures { λ _. ⌜ now (out .exit) ≡ octets (valueWords value) ⌝ }
+{
+    let ws = [value.c0, value.c1, value.c2, value.c3];
+    octets::encode(&ws, out);
+}
+
+fn put_parts(out: &mut [u8], carry: Value, done: Value, omega: Value)
+    requires { ⌜ length (now out) ≡ 48 ⌝ }
+    ensures { λ _. ⌜ now (out .exit) ≡ octets (valueWords carry ++ valueWords done ++ valueWords omega) ⌝ }
+{
+    let ws = [
+        carry.c0,
+        carry.c1,
+        carry.c2,
+        carry.c3,
+        done.c0,
+        done.c1,
+        done.c2,
+        done.c3,
+        omega.c0,
+        omega.c1,
+        omega.c2,
+        omega.c3,
+    ];
+    octets::encode(&ws, out);
+}
+
+fn room() -> [u32; 80]
+    ensures { λ r. ⌜ r ≡ replicate 80 0 ⌝ }
+{
+    [0u32; 80]
+}
