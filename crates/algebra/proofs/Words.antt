@@ -21,6 +21,10 @@ or-right : (a b : Bool) → a || b ≡ false → b ≡ false
 or-right true b h = absurd (let z : _≡_ {A = ℕ} 0 1 = cc in omega arith)
 or-right false b h = h
 
+pub or-false : (a : Bool) → a || false ≡ a
+or-false true = refl
+or-false false = refl
+
 module _ (m : ℕ) where
   -- a loop over the words ws, at word i
   module _ (ws : List ℕ) (i : ℕ) (h : i < length ws) where
@@ -31,6 +35,12 @@ module _ (m : ℕ) where
     pub passed : getD ws i 0 < m → unreduced m (drop i ws) ≡ unreduced m (drop (i + 1) ws)
     unfolding unreduced
     passed q = rw (add-one, drop-cons ws i 0 h, lt-leb m (getD ws i 0) q)
+
+    -- with what was found before
+    pub onward : (found : Bool) → found || unreduced m (drop i ws) ≡ (found || leb m (getD ws i 0)) || unreduced m (drop (i + 1) ws)
+    unfolding unreduced
+    onward true = refl
+    onward false = rw (add-one, drop-cons ws i 0 h) refl
 
   pub ended : (ws : List ℕ) (i : ℕ) → i ≡ length ws → unreduced m (drop i ws) ≡ false
   unfolding unreduced

@@ -7,6 +7,8 @@ mod product;
 pub mod word;
 
 ghost use mathlib.Core.Path.{_≡_};
+ghost use mathlib.Core.Bool.{_||_};
+ghost use lib.Dec.{leb};
 ghost use Prim.Native.Nat.{_<_};
 ghost use Rattle.algebra.specs.Ring.{Ops, minus};
 ghost use Rattle.algebra.specs.Words.{unreduced};
@@ -142,16 +144,19 @@ impl Element {
     }
 }
 
-// Refusal 5's test: a word of ws is not below the modulus.
+// Refusal 5's test: a word of ws is not below the modulus. It reads on after such a word, so that the loop has one way through it.
 pub fn unreduced(ws: &[u32]) -> bool
     ensures { λ r. ⌜ r ≡ unreduced p (now (ws .entry)) ⌝ }
 {
-    let mut i = 0;
-    while i < ws.len() {
-        if Element::MODULUS <= ws[i] {
-            return true;
-        }
-        i += 1;
+    let mut found = false;
+    for i in 0..ws.len() {
+        found = or_above(found, ws[i]);
     }
-    false
+    found
+}
+
+fn or_above(found: bool, w: u32) -> bool
+    ensures { λ r. ⌜ r ≡ found || leb p w ⌝ }
+{
+    if found { true } else { Element::MODULUS <= w }
 }

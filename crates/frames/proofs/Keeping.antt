@@ -102,7 +102,7 @@ module _ (r : Reader) (bs out : List ℕ) (d : Ready r out) where
             room = d .room;
             out-below = d .out-below;
           })
-      go false q = rw q (same-keeps (r .phase) (r .given) true)
+      go false q = rw q (same-keeps (r .phase) (r .given) _)
 
   counted-keeps : Feeds r bs → Ready (counted r bs) (outBy Words r bs out)
   counted-keeps f =

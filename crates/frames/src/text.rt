@@ -7,7 +7,8 @@ ghost use lib.ListN.{length, take, drop};
 ghost use Rattle.frames.specs.Lines.{untilFeed, outLine, refusalLine};
 ghost use Rattle.frames.specs.Inner.{mostLine, Held};
 
-// The most bytes of a line that are held: one more than a frame's digits, so that a longer line is no frame.
+// The most bytes of a line that are held: one more than a frame's digits, so that a longer line is no frame (`cut-alike` of
+// proofs/Spelling.antt).
 pub const MOST_LINE: usize = 133;
 
 const LINE_FEED: u8 = 10;

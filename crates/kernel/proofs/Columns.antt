@@ -1,6 +1,6 @@
--- Four products with base words gained, coordinate by coordinate. Assumes nothing.
+-- Two products with base words gained, and four, coordinate by coordinate. Assumes nothing.
 use mathlib.Core.Path.{_≡_, ap, _∙_}
-use Prim.Native.Nat.{ℕ, _%_}
+use Prim.Native.Nat.{ℕ, _+_, _*_, _%_}
 use Rattle.algebra.specs.Ring.{Ops, CommRing}
 use Rattle.algebra.specs.Residue.{reduce}
 use Rattle.algebra.specs.Words.{wordsOf, numbers}
@@ -8,9 +8,29 @@ use Rattle.field.specs.Field.{p, p-pos, Ext, field, base, toWords, fromWords, a
 use Rattle.field.specs.declared.Element.{Element}
 use Rattle.field.proofs.Laws.{field-ring, word-below}
 use Rattle.kernel.specs.declared.steps.Four.{Four}
-use Rattle.kernel.specs.Kernel.{fourProducts}
+use Rattle.kernel.specs.Kernel.{twoProducts, fourProducts}
 use Rattle.kernel.specs.Inner.{Small, column, plusProducts}
 use Rattle.kernel.proofs.Settling.{words, numbers-gain}
+
+abbrev product : Element → ℕ → Ext
+product w n = field .mul (fromWords w) (base n)
+
+-- two products gained
+module _ (v w : Element) (x y : ℕ) where
+  -- n, with coordinate k of both
+  abbrev both : ℕ → ℕ → ℕ
+  both n k = n + at v k * x + at w k * y
+
+  numbers-two : (a0 a1 a2 a3 : ℕ) → numbers p p-pos (both a0 0) (both a1 1) (both a2 2) (both a3 3)
+      ≡ field .add (field .add (numbers p p-pos a0 a1 a2 a3) (product v x)) (product w y)
+  unfolding fromWords
+  numbers-two a0 a1 a2 a3 =
+      numbers-gain _ _ _ _ _ _ _ _ y ∙ ap (λ (u : Ext). field .add u (product w y)) (numbers-gain a0 a1 a2 a3 _ _ _ _ x)
+
+  pub two-law : (old : Element) → words (both (at old 0) 0 % p) (both (at old 1) 1 % p) (both (at old 2) 2 % p) (both (at old 3) 3 % p)
+      ≡ toWords (field .add (fromWords old) (twoProducts (fromWords v) (fromWords w) x y))
+  unfolding toWords wordsOf fromWords numbers reduce twoProducts
+  two-law old = ap toWords (numbers-two (at old 0) (at old 1) (at old 2) (at old 3) ∙ field-ring .add-assoc _ _ _)
 
 regroup : (x a b c d : Ext)
     → field .add (field .add (field .add (field .add x a) b) c) d ≡ field .add x (field .add (field .add (field .add a b) c) d)
@@ -27,18 +47,13 @@ module _ (w0 w1 w2 w3 : Element) where
     abbrev coordinate : ℕ → ℕ
     coordinate k = plusProducts (at x k) (column w0 w1 w2 w3 k) f
 
-    abbrev product : Element → ℕ → Ext
-    product w n = field .mul (fromWords w) (base n)
-
     numbers-four : numbers p p-pos (coordinate 0) (coordinate 1) (coordinate 2) (coordinate 3)
         ≡ field .add (fromWords x) (fourProducts (fromWords w0) (fromWords w1) (fromWords w2) (fromWords w3) (f .x0) (f .x1) (f .x2) (f .x3))
     unfolding column fromWords fourProducts
     numbers-four =
-        numbers-gain _ _ _ _ _ _ _ _ (f .x3)
-        ∙ ap (λ (y : Ext). field .add y (product w3 (f .x3)))
-        (numbers-gain _ _ _ _ _ _ _ _ (f .x2)
-        ∙ ap (λ (y : Ext). field .add y (product w2 (f .x2)))
-        (numbers-gain _ _ _ _ _ _ _ _ (f .x1) ∙ ap (λ (y : Ext). field .add y (product w1 (f .x1))) (numbers-gain _ _ _ _ _ _ _ _ (f .x0))))
+        numbers-two w2 w3 (f .x2) (f .x3) _ _ _ _
+        ∙ ap (λ (y : Ext). field .add (field .add y (product w2 (f .x2))) (product w3 (f .x3)))
+        (numbers-two w0 w1 (f .x0) (f .x1) (at x 0) (at x 1) (at x 2) (at x 3))
         ∙ regroup (fromWords x) (product w0 (f .x0)) (product w1 (f .x1)) (product w2 (f .x2)) (product w3 (f .x3))
 
     pub four-law : words (coordinate 0 % p) (coordinate 1 % p) (coordinate 2 % p) (coordinate 3 % p)

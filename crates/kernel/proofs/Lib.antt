@@ -1,4 +1,5 @@
 mod Summing
+mod FewWords
 mod Settling
 mod Pairing
 mod Columns

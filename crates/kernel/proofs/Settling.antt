@@ -67,6 +67,14 @@ module _ (weights words : List ℕ) where
   sum-law zero = none
   sum-law (suc n) = more n ∙ ap (λ (x : Ext). field .add x (product n)) (sum-law n)
 
+  abbrev residue : ℕ → ℕ → ℕ
+  residue n k = coordinate weights words k n % p
+
+  -- the residues of n products' sum are its words
+  pub sum-holds : (n : ℕ) → Holds (record { c = residue n 0 ∷ residue n 1 ∷ residue n 2 ∷ residue n 3 ∷ [] }) (sumTo field n product)
+  unfolding toWords wordsOf numbers reduce
+  sum-holds n = holds _ (ap toWords (sum-law n))
+
   pub finish : {s : Sums} → Summed weights words (length words) s → Holds (settled s) (sumTo field (length words) product)
-  unfolding settled toWords wordsOf numbers reduce
-  finish u = holds _ (rw (u .at0 .is, u .at1 .is, u .at2 .is, u .at3 .is) (ap toWords (sum-law (length words))))
+  unfolding settled
+  finish u = rw (u .at0 .is, u .at1 .is, u .at2 .is, u .at3 .is) (sum-holds (length words))

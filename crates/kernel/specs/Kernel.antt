@@ -39,6 +39,14 @@ pub record Rows (k n : ℕ) (out words : List ℕ) : Type 0 where
   pub there : k * n ≤ length words
   pub words-below : unreduced p words ≡ false
 
+-- w0 x0 + w1 x1
+unfoldable pub twoProducts : Ext → Ext → ℕ → ℕ → Ext
+twoProducts w0 w1 x0 x1 = field .add (field .mul w0 (base x0)) (field .mul w1 (base x1))
+
+-- word y of each of two rows of n words, times the row's weight
+abbrev pub twoRows : Element → Element → ℕ → List ℕ → ℕ → Ext
+twoRows w0 w1 n words y = twoProducts (fromWords w0) (fromWords w1) (getD words y 0) (getD words (n + y) 0)
+
 -- w0 x0 + w1 x1 + w2 x2 + w3 x3
 unfoldable pub fourProducts : Ext → Ext → Ext → Ext → ℕ → ℕ → ℕ → ℕ → Ext
 fourProducts w0 w1 w2 w3 x0 x1 x2 x3 =

@@ -4,22 +4,52 @@ mod steps;
 mod sums;
 
 use field::Element;
+use field::word;
 use steps::Four;
+ghost use Prim.Native.Nat.{_≤_};
 ghost use Rattle.algebra.specs.Ring.{Ops};
 ghost use Rattle.algebra.specs.Sum.{sumTo};
 ghost use Rattle.field.specs.Field.{field, base, fromWords, Reduced, Holds};
 ghost use Rattle.table.specs.Table.{elementAt};
 ghost use Rattle.table.specs.Inner.{Gained};
 ghost use lib.ListN.{length, getD};
-ghost use Rattle.kernel.specs.Kernel.{Dots, Pairs, Row, Rows, fourRows};
+ghost use Rattle.kernel.specs.Kernel.{Dots, Pairs, Row, Rows, twoRows, fourRows};
 
 // The sum of weights[y] words[y].
 pub fn dot(weights: &[u32], words: &[u32]) -> Element
     requires { ⌜ Dots (now weights) (now words) ⌝ }
     ensures { λ r. ⌜ Holds r (sumTo field (length (now (words .entry))) (λ y. field .mul (elementAt (now (weights .entry)) y) (base (getD (now (words .entry)) y 0)))) ⌝ }
 {
+    if words.len() <= 4 {
+        return dot_few(weights, words);
+    }
     let done = 4 * (words.len() / 4);
     sums::rest(sums::fours(weights, words), weights, words, done).settle()
+}
+
+// The same for at most four words: the products of a coordinate fit a u64, and are divided once.
+pub fn dot_few(weights: &[u32], words: &[u32]) -> Element
+    requires { ⌜ Dots (now weights) (now words) × (length (now words) ≤ 4) ⌝ }
+    ensures { λ r. ⌜ Holds r (sumTo field (length (now (words .entry))) (λ y. field .mul (elementAt (now (weights .entry)) y) (base (getD (now (words .entry)) y 0)))) ⌝ }
+{
+    let mut s0 = 0u64;
+    let mut s1 = 0u64;
+    let mut s2 = 0u64;
+    let mut s3 = 0u64;
+    for i in 0..words.len() {
+        s0 += sums::one(weights, words, i, 0);
+        s1 += sums::one(weights, words, i, 1);
+        s2 += sums::one(weights, words, i, 2);
+        s3 += sums::one(weights, words, i, 3);
+    }
+    Element {
+        c: [
+            word::residue(s0),
+            word::residue(s1),
+            word::residue(s2),
+            word::residue(s3),
+        ],
+    }
 }
 
 // The sum of weights[y] entries[y] over n entries of a table of elements.
@@ -43,6 +73,18 @@ pub fn gain_row(out: &mut [u32], from: usize, words: &[u32], weight: Element)
     for y in 0..words.len() {
         let sum = steps::step(table::get(out, from + y), weight, words[y]);
         table::put(out, from + y, sum);
+    }
+}
+
+// out[y] gains w0 words[y] + w1 words[n + y], for each y below n.
+pub fn gain_two(out: &mut [u32], words: &[u32], n: usize, w0: Element, w1: Element)
+    requires { ⌜ Rows 2 n (now out) (now words) ⌝ }
+    requires { ⌜ Reduced w0 × Reduced w1 ⌝ }
+    ensures { λ _. ⌜ Gained 0 n (twoRows w0 w1 n (now (words .entry))) (now (out .entry)) (now (out .exit)) ⌝ }
+{
+    for y in 0..n {
+        let sum = steps::step_two(table::get(out, y), w0, words[y], w1, words[n + y]);
+        table::put(out, y, sum);
     }
 }
 

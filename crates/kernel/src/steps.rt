@@ -5,7 +5,7 @@ ghost use mathlib.Core.Path.{_≡_};
 ghost use Prim.Native.Nat.{_+_, _*_, _%_, _<_};
 ghost use Rattle.algebra.specs.Ring.{Ops};
 ghost use Rattle.field.specs.Field.{p, field, base, fromWords, Reduced, Holds};
-ghost use Rattle.kernel.specs.Kernel.{fourProducts};
+ghost use Rattle.kernel.specs.Kernel.{twoProducts, fourProducts};
 ghost use Rattle.kernel.specs.Inner.{Small, column, plusProducts};
 
 // A word of each of four rows, or a coordinate of each row's weight.
@@ -36,6 +36,28 @@ fn coordinate(old: u32, weight: u32, word: u32) -> u32
     ensures { λ r. ⌜ r ≡ (old + weight * word) % p ⌝ }
 {
     word::residue((old as u64) + word::wide(weight, word))
+}
+
+// old + w0 x0 + w1 x1.
+pub fn step_two(old: Element, w0: Element, x0: u32, w1: Element, x1: u32) -> Element
+    requires { ⌜ (Reduced w0 × (x0 < p)) × (Reduced w1 × (x1 < p)) ⌝ }
+    ensures { λ r. ⌜ Holds r (field .add (fromWords old) (twoProducts (fromWords w0) (fromWords w1) x0 x1)) ⌝ }
+{
+    Element {
+        c: [
+            coordinate_two(old.c[0], w0.c[0], x0, w1.c[0], x1),
+            coordinate_two(old.c[1], w0.c[1], x0, w1.c[1], x1),
+            coordinate_two(old.c[2], w0.c[2], x0, w1.c[2], x1),
+            coordinate_two(old.c[3], w0.c[3], x0, w1.c[3], x1),
+        ],
+    }
+}
+
+fn coordinate_two(old: u32, w0: u32, x0: u32, w1: u32, x1: u32) -> u32
+    requires { ⌜ ((w0 < p) × (x0 < p)) × ((w1 < p) × (x1 < p)) ⌝ }
+    ensures { λ r. ⌜ r ≡ (old + w0 * x0 + w1 * x1) % p ⌝ }
+{
+    word::residue((old as u64) + word::wide(w0, x0) + word::wide(w1, x1))
 }
 
 // old + w0 words.x0 + w1 words.x1 + w2 words.x2 + w3 words.x3.

@@ -92,7 +92,7 @@ impl Sums {
 }
 
 // What coordinate k gains by word i.
-fn one(weights: &[u32], words: &[u32], i: usize, k: usize) -> u64
+pub fn one(weights: &[u32], words: &[u32], i: usize, k: usize) -> u64
     requires { ⌜ Part (now weights) (now words) i 1 × (k < 4) ⌝ }
     ensures { λ r. ⌜ Gains (now (weights .entry)) (now (words .entry)) k i 1 r ⌝ }
 {

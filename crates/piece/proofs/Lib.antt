@@ -3,5 +3,6 @@ pub mod WholeRows
 pub mod RowByRow
 pub mod PlaceSums
 pub mod PlaceByPlace
-pub mod BySide
+pub mod LastRows
+mod BySide
 pub mod Joining

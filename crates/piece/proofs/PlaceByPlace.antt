@@ -31,7 +31,7 @@ base-cond true x = refl
 base-cond false x = base-zero
 
 -- quotient and remainder
-floor : (x : ℕ) {rows : ℕ} → 0 < rows → (x / rows * rows ≤ x) × (x < x / rows * rows + rows)
+pub floor : (x : ℕ) {rows : ℕ} → 0 < rows → (x / rows * rows ≤ x) × (x < x / rows * rows + rows)
 floor x {rows} h =
     let q = div-add-mod' x rows in
     let m : x % rows < rows = mod-lt x h in

@@ -1,12 +1,14 @@
 -- What the inner functions take and give. No exported operation's contract cites it. Assumes nothing.
 use mathlib.Core.Path.{_≡_}
-use mathlib.Core.Bool.{false, cond}
-use Prim.Native.Nat.{ℕ, _+_, _-_, _*_, _^_, _≤_, _<_}
+use mathlib.Core.Bool.{Bool, false, cond}
+use Prim.Native.Nat.{ℕ, _+_, _-_, _*_, _/_, _^_, _≤_, _<_}
 use mathlib.Core.List.{List}
 use lib.Dec.{ltb}
 use lib.ListN.{length}
 use Rattle.algebra.specs.Ring.{Ops}
 use Rattle.algebra.specs.Words.{unreduced}
+use Rattle.multilinear.specs.declared.Side.{Side}
+use Rattle.multilinear.specs.declared.Side.the-variants.{Prefix, Suffix}
 use Rattle.multilinear.specs.Values.{valueAt}
 use Rattle.field.specs.Field.{p, Ext, field, base, Reduced}
 use Rattle.field.specs.declared.Element.{Element}
@@ -26,7 +28,18 @@ pub record Pieces (n k : ℕ) (scale : Element) (point : List ℕ) (taken : ℕ)
   pub room : length out ≡ 4 * 2 ^ (n - k)
   pub out-below : unreduced p out ≡ false
 
--- the same with 2^k rows of `inner` words, and how the rows are weighed
+-- a piece of `len` words of 2^k rows of `inner` words
+pub record Counts (k inner taken len : ℕ) : Type 0 where
+  pub few : k ≤ most
+  pub small : 2 ^ k * inner ≤ 2 ^ most
+  pub within : taken + len ≤ 2 ^ k * inner
+
+-- a word of it is in the last row of its place
+unfoldable pub hasLast : Side → ℕ → ℕ → ℕ → ℕ → Bool
+hasLast Prefix rows inner taken len = ltb ((rows - 1) * inner) (taken + len)
+hasLast Suffix rows inner taken len = ltb (taken / rows) ((taken + len) / rows)
+
+-- a piece, with 2^k rows of `inner` words, and how the rows are weighed
 pub record Adds (skip : ℕ) (last : Element) (k inner : ℕ) (scale : Element) (point : List ℕ) (taken : ℕ) (piece out : List ℕ) : Type 0 where
   pub one : skip ≤ 1
   pub last-is : Reduced last

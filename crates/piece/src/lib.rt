@@ -6,6 +6,7 @@ use field::Element;
 use multilinear::Side;
 use multilinear::Weight;
 ghost use mathlib.Core.Path.{_≡_};
+ghost use mathlib.Core.Bool.{cond};
 ghost use Prim.Native.Nat.{_-_, _*_, _^_, _≤_};
 ghost use lib.ListN.{length};
 ghost use Rattle.algebra.specs.Ring.{Ops};
@@ -17,7 +18,7 @@ ghost use Rattle.field.specs.Field.{field, base, fromWords, Reduced, Holds};
 ghost use Rattle.table.specs.Table.{tableWords, elementAt, elements, placed};
 ghost use Rattle.table.specs.Inner.{Gained};
 ghost use Rattle.point.specs.Inner.{Coordinates};
-ghost use Rattle.piece.specs.Inner.{Pieces, Adds, Scatters, Places, placeSum};
+ghost use Rattle.piece.specs.Inner.{Pieces, Counts, hasLast, Adds, Scatters, Places, placeSum};
 
 // out gains scale weight word at each word's place.
 pub fn add(
@@ -36,7 +37,8 @@ pub fn add(
 {
     let inner = table::rows(n - k);
     let skip = skip_of(weight);
-    let last = last_of(weight, scale, point, k);
+    let used = has_last(side, k, inner, taken, piece.len());
+    let last = last_of(weight, used, scale, point, k);
     add_weighed(side, skip, last, k, inner, scale, point, taken, piece, out);
 }
 
@@ -51,15 +53,31 @@ fn skip_of(weight: Weight) -> usize
     }
 }
 
-// What the last row has beside it: its own weight, where the weight is next.
-fn last_of(weight: Weight, scale: Element, point: &[u32], k: usize) -> Element
-    requires { ⌜ Coordinates k (now point) × Reduced scale ⌝ }
-    ensures { λ r. ⌜ Holds r (lastOf field weight (elements (now (point .entry)) 0 k) (fromWords scale)) ⌝ }
+// A word of the piece is in the last row of its place.
+fn has_last(side: Side, k: usize, inner: usize, taken: usize, len: usize) -> bool
+    requires { ⌜ Counts k inner taken len ⌝ }
+    ensures { λ r. ⌜ r ≡ hasLast side (2 ^ k) inner taken len ⌝ }
 {
-    match weight {
-        Weight::Plain => Element::zero(),
-        Weight::Shifted => Element::zero(),
-        Weight::Next => scale.mul(point::equality::at_row(point, k, table::rows(k) - 1)),
+    let rows = table::rows(k);
+    match side {
+        Side::Prefix => (rows - 1) * inner < taken + len,
+        Side::Suffix => taken / rows < (taken + len) / rows,
+    }
+}
+
+// What the last row has beside it: its own weight, where the weight is next. It is a product a coordinate, and made only where it is used.
+fn last_of(weight: Weight, used: bool, scale: Element, point: &[u32], k: usize) -> Element
+    requires { ⌜ Coordinates k (now point) × Reduced scale ⌝ }
+    ensures { λ r. ⌜ Holds r (cond used (lastOf field weight (elements (now (point .entry)) 0 k) (fromWords scale)) (field .zero)) ⌝ }
+{
+    if used {
+        match weight {
+            Weight::Plain => Element::zero(),
+            Weight::Shifted => Element::zero(),
+            Weight::Next => scale.mul(point::equality::at_row(point, k, table::rows(k) - 1)),
+        }
+    } else {
+        Element::zero()
     }
 }
 
@@ -216,7 +234,7 @@ fn block_variables(k: usize, len: usize) -> usize
     ensures { λ r. ⌜ (r ≤ k) × (r ≤ 8) ⌝ }
 {
     if len < 64 {
-        return 0;
+        return table::smaller(k, 2);
     }
     if len < 1024 {
         return table::smaller(k, 4);

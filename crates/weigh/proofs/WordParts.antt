@@ -1,4 +1,4 @@
--- What `part` lends its calls, and what they give. Assumes nothing.
+-- What `part` and `halves` lend their calls, and what they give. Assumes nothing.
 use mathlib.Core.Path.{_≡_, sym, ap, ap₂, _∙_}
 use Prim.Native.Nat.{ℕ, _+_, _-_, _*_, _^_, _≤_}
 use native.Mathlib.Nat.{zero-add}

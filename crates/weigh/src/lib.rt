@@ -65,8 +65,31 @@ fn block_room() -> [u32; 1024]
 }
 
 // The value, at the coordinates i to i + high - 1, of the sums of the blocks against the block's table. The words stand at the rows
-// from `from` on; a row that has none counts as 0.
+// from `from` on; a row that has none counts as 0. Few words of one block are summed at once.
 pub fn part(
+    words: &[u32],
+    from: usize,
+    point: &[u32],
+    i: usize,
+    high: usize,
+    low: usize,
+    block: &[u32],
+) -> Element
+    requires { ⌜ Parts i high low from (now point) (now words) (now block) ⌝ }
+    ensures { λ r. ⌜ Holds r (valueAt field (elements (now (point .entry)) i high) (blockSum low (now (block .entry)) (placed from (now (words .entry))))) ⌝ }
+{
+    if high == 0 {
+        if words.len() <= 4 {
+            let start = 4 * from;
+            let end = start + 4 * words.len();
+            return kernel::dot_few(&block[start..end], words);
+        }
+    }
+    halves(words, from, point, i, high, low, block)
+}
+
+// The same, by the halves of the words.
+fn halves(
     words: &[u32],
     from: usize,
     point: &[u32],
@@ -88,8 +111,8 @@ pub fn part(
         let half = table::rows(high - 1 + low);
         let from0 = table::smaller(from, half);
         let cut = table::smaller(words.len(), half - from0);
-        let at0 = part(&words[..cut], from0, point, i + 1, high - 1, low, block);
-        let at1 = part(
+        let at0 = halves(&words[..cut], from0, point, i + 1, high - 1, low, block);
+        let at1 = halves(
             &words[cut..],
             from - from0,
             point,

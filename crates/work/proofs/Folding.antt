@@ -1,4 +1,4 @@
--- The loops of `fold_rows`, by rows and by fours: how they start, step and end. Assumes nothing.
+-- The loops of `fold_rows`, by rows, pairs and fours: how they start, step and end. Assumes nothing.
 use mathlib.Core.Path.{_≡_, sym, ap, ap₂, _∙_}
 use mathlib.Core.Bool.{false}
 use Prim.Native.Nat.{ℕ, suc, _+_, _-_, _*_, _≤_, _<_}
@@ -18,12 +18,25 @@ use Rattle.table.specs.Inner.{Gained}
 use Rattle.table.proofs.Gaining.{nothing, gained-as, added}
 use Rattle.table.proofs.Parts.{part-length, part-word, part-below}
 use Rattle.table.proofs.Tests.{reduced-at}
-use Rattle.kernel.specs.Kernel.{Row, Rows, fourProducts, fourRows}
-use Rattle.work.specs.Inner.{rowWeight, rowTerm}
+use Rattle.kernel.specs.Kernel.{Row, Rows, twoProducts, twoRows, fourProducts, fourRows}
+use Rattle.work.specs.Inner.{rowWeight, rowTerm, Range}
 
 -- m rows from row y on lie within the words
 pub rows-within : (inner y m end n : ℕ) → y + m ≤ end → end * inner ≤ n → y * inner + m * inner ≤ n
 rows-within inner y m end n h l = omega (arith, mul-le-mul-right inner h, add-mul y m inner)
+
+-- fewer rows
+pub shorter : {k inner from end : ℕ} {words out : List ℕ} (m : ℕ) → m ≤ end → from ≤ m → Range k inner from end words out
+    → Range k inner from m words out
+shorter {inner = inner} m h l r =
+    record {
+      ordered = l;
+      few = omega (arith, r .few);
+      there = omega (arith, r .there, mul-le-mul-right inner h);
+      below = r .below;
+      room = r .room;
+      out-below = r .out-below;
+    }
 
 -- the sum over n rows from `from` on, at place i
 abbrev pub rowsAt : ℕ → ℕ → List ℕ → List ℕ → ℕ → ℕ → ℕ → Ext
@@ -54,12 +67,18 @@ module _ (k inner : ℕ) (work words : List ℕ) (y m n : ℕ) (fits : y * inner
       ap₂ (λ u v. field .mul u (base v)) (read-as _ d ∙ ap (rowWeight k work) q)
       (part-word (y * inner) n words place inside ∙ ap (λ j. getD words j 0) r)
 
--- four products are a sum of four
+-- two products are a sum of two
+sum-of-two : (w0 w1 : Ext) (x0 x1 : ℕ) (f : ℕ → Ext) → field .mul w0 (base x0) ≡ f 0 → field .mul w1 (base x1) ≡ f 1
+    → twoProducts w0 w1 x0 x1 ≡ sumTo field 2 f
+unfolding twoProducts sumTo
+sum-of-two w0 w1 x0 x1 f e₀ e₁ = ap₂ (field .add) (e₀ ∙ sym (zero-add field-ring (f 0))) e₁
+
+-- and four of four
 sum-of-four : (w0 w1 w2 w3 : Ext) (x0 x1 x2 x3 : ℕ) (f : ℕ → Ext) → field .mul w0 (base x0) ≡ f 0 → field .mul w1 (base x1) ≡ f 1
     → field .mul w2 (base x2) ≡ f 2 → field .mul w3 (base x3) ≡ f 3 → fourProducts w0 w1 w2 w3 x0 x1 x2 x3 ≡ sumTo field 4 f
-unfolding fourProducts sumTo
+unfolding fourProducts twoProducts sumTo
 sum-of-four w0 w1 w2 w3 x0 x1 x2 x3 f e₀ e₁ e₂ e₃ =
-    ap₂ (field .add) (ap₂ (field .add) (ap₂ (field .add) (e₀ ∙ sym (zero-add field-ring (f 0))) e₁) e₂) e₃
+    ap₂ (field .add) (ap₂ (field .add) (sum-of-two w0 w1 x0 x1 f e₀ e₁) e₂) e₃
 
 -- no row yet
 pub start : (k inner : ℕ) (work words : List ℕ) (from n : ℕ) (out : List ℕ) → n ≡ 0 → unreduced p out ≡ false
@@ -72,25 +91,48 @@ pub start-fours : (k inner : ℕ) (work words out : List ℕ) → unreduced p ou
 unfolding sumTo
 start-fours k inner work words out b = nothing 0 inner out (λ y h. reduced-at out b (0 + y))
 
+-- m rows more, after n
+more : (inner : ℕ) (t : ℕ → ℕ → Ext) (n m : ℕ) {g : ℕ → Ext} {ws w w′ : List ℕ} → Gained 0 inner (λ i. sumTo field n (t i)) ws w
+    → Gained 0 inner g w w′ → ((i : ℕ) → i < inner → g i ≡ sumTo field m (λ a. t i (n + a)))
+    → Gained 0 inner (λ i. sumTo field (n + m) (t i)) ws w′
+more inner t n m d e same =
+    gained-as (λ i. sumTo field (n + m) (t i)) (added d e) (λ i b.
+    ap (field .add (sumTo field n (t i))) (same i b) ∙ sym (sum-split field-ring m n (t i)))
+
 module _ (k inner : ℕ) (work words : List ℕ) where
-  -- one row more
-  pub turn : (from y n : ℕ) → y * inner + n ≤ length words → n ≡ inner → from ≤ y → (ws w : List ℕ)
-      → Gained 0 inner (rowsAt k inner work words from (y - from)) ws w → (e : Element) {w′ : List ℕ} → Holds e (rowWeight k work y)
-      → Gained 0 (length (take n (drop (y * inner) words)))
-      (λ i. field .mul (fromWords e) (base (getD (take n (drop (y * inner) words)) i 0)))
-      w w′
-      → Gained 0 inner (rowsAt k inner work words from (y + 1 - from)) ws w′
-  unfolding sumTo
-  turn from y n fits z before ws w d e {w′} e₁ e₂ =
-      let q : suc (y - from) ≡ y + 1 - from = omega arith in
-      let r : y + 0 ≡ from + (y - from) = omega arith in
-      let some : 1 * inner ≤ n = omega arith in
-      let l : length (take n (drop (y * inner) words)) ≡ inner = part-length (y * inner) n words fits ∙ z in
-      gained-as (rowsAt k inner work words from (y + 1 - from)) (added d (rw l at e₂)) (λ i b.
-      ap (λ x. field .add (rowsAt k inner work words from (y - from) i) x)
-      (term k inner work words y 1 n fits some 0 y i i e (omega arith) b (omega arith) (omega arith) e₁
-      ∙ ap (rowTerm k inner work words i) r)
-      ∙ ap (λ a. rowsAt k inner work words from a i) q)
+  -- the words lent from row y on, which is row c of those from `from` on
+  module _ (from c y n : ℕ) (q : y ≡ from + c) (fits : y * inner + n ≤ length words) where
+    row : (m : ℕ) → m * inner ≤ n → (a r place i : ℕ) (e : Element) → a < m → i < inner → r ≡ y + a → place ≡ a * inner + i
+        → Holds e (rowWeight k work r)
+        → field .mul (fromWords e) (base (getD (take n (drop (y * inner) words)) place 0)) ≡ rowTerm k inner work words i (from + (c + a))
+    row m some a r place i e h l s t d =
+        let u : y + a ≡ from + (c + a) = omega arith in
+        term k inner work words y m n fits some a r place i e h l s t d ∙ ap (rowTerm k inner work words i) u
+
+    -- one row more
+    pub turn-row : n ≡ inner → {ws w w′ : List ℕ} → Gained 0 inner (rowsAt k inner work words from c) ws w → {e : Element}
+        → Holds e (rowWeight k work y)
+        → Gained 0 (length (take n (drop (y * inner) words)))
+        (λ i. field .mul (fromWords e) (base (getD (take n (drop (y * inner) words)) i 0)))
+        w w′
+        → Gained 0 inner (rowsAt k inner work words from (c + 1)) ws w′
+    unfolding sumTo
+    turn-row z d {e} e₀ g =
+        let l : length (take n (drop (y * inner) words)) ≡ inner = part-length (y * inner) n words fits ∙ z in
+        more inner (λ i j. rowTerm k inner work words i (from + j)) c 1 d (rw l at g) (λ i b.
+        row 1 (omega arith) 0 y i i e (omega arith) b (omega arith) (omega arith) e₀
+        ∙ sym (zero-add field-ring (rowTerm k inner work words i (from + (c + 0)))))
+
+    -- two rows more
+    pub turn-two : 2 * inner ≤ n → {ws w w′ : List ℕ} → Gained 0 inner (rowsAt k inner work words from c) ws w → {a0 a1 : Element}
+        → Holds a0 (rowWeight k work y) → Holds a1 (rowWeight k work (y + 1))
+        → Gained 0 inner (twoRows a0 a1 inner (take n (drop (y * inner) words))) w w′
+        → Gained 0 inner (rowsAt k inner work words from (c + 2)) ws w′
+    turn-two some d {a0} {a1} e₀ e₁ g =
+        more inner (λ i j. rowTerm k inner work words i (from + j)) c 2 d g (λ i b.
+        sum-of-two _ _ _ _ (λ a. rowTerm k inner work words i (from + (c + a)))
+        (row 2 some 0 _ _ i a0 (omega arith) b (omega arith) (omega arith) e₀)
+        (row 2 some 1 _ _ i a1 (omega arith) b (omega arith) (omega arith) e₁))
 
   -- four rows more
   pub turn-fours : (j n : ℕ) → 4 * j * inner + n ≤ length words → 4 * inner ≤ n → (ws w : List ℕ)
@@ -98,21 +140,18 @@ module _ (k inner : ℕ) (work words : List ℕ) where
       → Holds a0 (rowWeight k work (4 * j)) → Holds a1 (rowWeight k work (4 * j + 1)) → Holds a2 (rowWeight k work (4 * j + 2))
       → Holds a3 (rowWeight k work (4 * j + 3)) → Gained 0 inner (fourRows a0 a1 a2 a3 inner (take n (drop (4 * j * inner) words))) w w′
       → Gained 0 inner (λ i. sumTo field (4 * (j + 1)) (rowTerm k inner work words i)) ws w′
-  turn-fours j n fits some ws w d a0 a1 a2 a3 e₀ e₁ e₂ e₃ e₄ =
-      gained-as (λ i. sumTo field (4 * (j + 1)) (rowTerm k inner work words i)) (added d e₄) (λ i b.
-      ap (field .add (sumTo field (4 * j) (rowTerm k inner work words i))) (four i b)
-      ∙ sym (sum-split field-ring 4 (4 * j) (rowTerm k inner work words i))
-      ∙ ap (λ a. sumTo field a (rowTerm k inner work words i)) more)
+  turn-fours j n fits some ws w d a0 a1 a2 a3 {w′} e₀ e₁ e₂ e₃ e₄ =
+      let q : 4 * j + 4 ≡ 4 * (j + 1) = omega arith in
+      let g : Gained 0 inner (λ i. sumTo field (4 * j + 4) (rowTerm k inner work words i)) ws w′ =
+      more inner (rowTerm k inner work words) (4 * j) 4 d e₄ four in
+      rw q at g
     where
-      more : 4 * j + 4 ≡ 4 * (j + 1)
-      more = omega arith
-
       at : (a row place i : ℕ) (e : Element) → a < 4 → i < inner → row ≡ 4 * j + a → place ≡ a * inner + i → Holds e (rowWeight k work row)
           → field .mul (fromWords e) (base (getD (take n (drop (4 * j * inner) words)) place 0)) ≡ rowTerm k inner work words i (4 * j + a)
       at = term k inner work words (4 * j) 4 n fits some
 
       four : (i : ℕ) → i < inner
-          → fourRows a0 a1 a2 a3 inner (take n (drop (4 * j * inner) words)) i ≡ rowsAt k inner work words (4 * j) 4 i
+          → fourRows a0 a1 a2 a3 inner (take n (drop (4 * j * inner) words)) i ≡ sumTo field 4 (λ a. rowTerm k inner work words i (4 * j + a))
       four i b =
           sum-of-four _ _ _ _ _ _ _ _ (λ a. rowTerm k inner work words i (4 * j + a))
           (at 0 _ _ i a0 (omega arith) b (omega arith) (omega arith) e₀)

@@ -82,7 +82,7 @@ fn gain_fours(words: &[u32], work: &[u32], k: usize, inner: usize, n: usize, out
     }
 }
 
-// out gains the rows from `from` to before `end`.
+// out gains the rows from `from` to before `end`: two at a time, and the one that is left.
 fn gain_rest(
     words: &[u32],
     work: &[u32],
@@ -95,10 +95,40 @@ fn gain_rest(
     requires { ⌜ Tables k (now work) × Range k inner from end (now words) (now out) ⌝ }
     ensures { λ _. ⌜ Gained 0 inner (λ i. sumTo field (end - from) (λ j. rowTerm k inner (now (work .entry)) (now (words .entry)) i (from + j))) (now (out .entry)) (now (out .exit)) ⌝ }
 {
-    for y in from..end {
+    let pairs = (end - from) / 2;
+    gain_pairs(words, work, k, inner, from, pairs, out);
+    let y = from + 2 * pairs;
+    if y == end {
+        return;
+    }
+    let start = y * inner;
+    let stop = start + inner;
+    kernel::gain_row(out, 0, &words[start..stop], weight(work, k, y));
+}
+
+// out gains 2 n rows from `from` on, two at a time.
+fn gain_pairs(
+    words: &[u32],
+    work: &[u32],
+    k: usize,
+    inner: usize,
+    from: usize,
+    n: usize,
+    out: &mut [u32],
+)
+    requires { ⌜ Tables k (now work) × Range k inner from (from + 2 * n) (now words) (now out) ⌝ }
+    ensures { λ _. ⌜ Gained 0 inner (λ i. sumTo field (2 * n) (λ j. rowTerm k inner (now (work .entry)) (now (words .entry)) i (from + j))) (now (out .entry)) (now (out .exit)) ⌝ }
+{
+    for j in 0..n {
+        let y = from + 2 * j;
         let start = y * inner;
-        let stop = start + inner;
-        kernel::gain_row(out, 0, &words[start..stop], weight(work, k, y));
+        kernel::gain_two(
+            out,
+            &words[start..],
+            inner,
+            weight(work, k, y),
+            weight(work, k, y + 1),
+        );
     }
 }
 

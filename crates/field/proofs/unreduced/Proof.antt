@@ -1,38 +1,35 @@
--- `field::unreduced` meets its contract: what is left of the words decides. Assumes nothing.
+-- `field::unreduced` meets its contract: a word was found, or what is left of the words decides. Assumes nothing.
 use mathlib.Core.Path.{_≡_, refl, sym, _∙_}
+use mathlib.Core.Bool.{Bool, true, false, _||_}
 use Prim.Native.Nat.{_≤_, _-_}
 use native.Mathlib.Omega.{arith}
 use borrow.Author.Needs.{needs}
 use lib.ListN.{length, drop}
 use Rattle.algebra.specs.Words.{unreduced}
-use Rattle.algebra.proofs.Words.{found, passed, ended}
+use Rattle.algebra.proofs.Words.{onward, ended, or-false}
 use Rattle.field.specs.Field.{p}
 use Rattle.field.proofs.unreduced.Statement.{statement}
 use Rattle.field.proofs.unreduced.Tie as tie
 
 abbrev Inv-loop : tie.InvT-loop
-Inv-loop ws i₀ i = (i ≤ length ws) × (unreduced p ws ≡ unreduced p (drop i ws))
+Inv-loop ws found₀ i₀ i-end found i = (i-end ≡ length ws) × (i ≤ length ws) × (unreduced p ws ≡ found || unreduced p (drop i ws))
 
 abbrev μ-loop : tie.MeasureT-loop
-μ-loop ws i₀ i = length ws - i
-
-returns : tie.Need-returns Inv-loop μ-loop
-returns c =
-    let test = c .before .before in
-    let at = test .before in
-    sym (at .loop .inv .1 ∙ found p _ _ (test .loop-test .taken) (c .if1 .taken))
+μ-loop ws found₀ i₀ i-end found i = i-end - i
 
 loop-again : tie.Need-loop-again Inv-loop μ-loop
 loop-again c =
-    let test = c .before .before in
-    let at = test .before in
-    (omega arith, at .loop .inv .1 ∙ passed p _ _ (test .loop-test .taken) (omega arith))
+    let taken = c .before .before in
+    let at = taken .before in
+    let ws = at .before .before .args .ws .now in
+    (at .loop .inv .0, omega arith, at .loop .inv .2 ∙ rw (c .or-above .ensures) (onward p ws (at .loop .i) (omega arith) (at .loop .found)))
 
-returns-2 : tie.Need-returns-2 Inv-loop μ-loop
-returns-2 c =
+returns : tie.Need-returns Inv-loop μ-loop
+returns c =
     let at = c .before in
-    let e : at .loop .i ≡ length (at .before .args .ws .now) = omega arith in
-    sym (at .loop .inv .1 ∙ ended p _ _ e)
+    let ws = at .before .before .args .ws .now in
+    let e : at .loop .i ≡ length ws = omega arith in
+    sym (at .loop .inv .2 ∙ rw (ended p ws (at .loop .i) e) (or-false (at .loop .found)))
 
 pub unreduced-spec : {M : Type 1} → statement M
 unreduced-spec =
@@ -40,11 +37,11 @@ unreduced-spec =
     (tie.spec
     Inv-loop
     μ-loop
-    (λ c. (omega arith, refl))
+    (λ c. (refl, omega arith, refl))
     (search needs)
     (search needs)
-    returns
+    (search needs)
     (search needs)
     (search needs)
     loop-again
-    returns-2)
+    returns)

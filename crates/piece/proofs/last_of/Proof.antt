@@ -27,33 +27,40 @@ last-row point k rows scale e q h d =
     rw e (rw (read-as _ h, q, l) at d)
 
 sub-at-row : tie.Need-sub-at-row
-sub-at-row c = omega (arith, c .rows .ensures, pow-pos (c .before .before .before .before .args .k))
+sub-at-row c = omega (arith, c .rows .ensures, pow-pos (c .before .before .before .before .before .args .k))
 
 returns : tie.Need-returns
-returns c = rw (c .before .enum-told .given .1) (c .zero .ensures)
+returns c = let told = c .before in rw (told .before .before .if1 .taken, told .enum-told .given .1) (c .zero .ensures)
 
 returns-2 : tie.Need-returns-2
-returns-2 c = rw (c .before .enum-told2 .given .1) (c .zero2 .ensures)
+returns-2 c = let told = c .before in rw (told .before .before .if1 .taken, told .enum-told2 .given .1) (c .zero2 .ensures)
 
 returns-3 : tie.Need-returns-3
 returns-3 c =
     let row = c .before in
     let rows = row .before in
-    last-row _ _ _ _ (rows .before .enum-told3 .given .1) (rows .rows .ensures) (row .at-row .ensures) (c .mul .ensures)
+    let told = rows .before in
+    rw (told .before .before .if1 .taken)
+    (last-row _ _ _ _ (told .enum-told3 .given .1) (rows .rows .ensures) (row .at-row .ensures) (c .mul .ensures))
+
+returns-4 : tie.Need-returns-4
+returns-4 c = rw (c .before .if1 .left) (c .zero3 .ensures)
 
 pub last-of-spec : {M : Type 1} → statement M
 last-of-spec =
     tie.close
     (tie.spec
     (search needs)
+    (λ c κs. search needs)
     (search needs)
+    (λ c κs. search needs)
     (search needs)
-    (search needs)
-    (search needs)
-    (search needs)
+    (λ c κs. search needs)
     sub-at-row
-    (λ c κs. c .before .before .before .before .pre .0)
+    (λ c κs. search needs)
+    (λ c κs. search needs)
     (λ c κs. search needs)
     returns
     returns-2
-    returns-3)
+    returns-3
+    returns-4)

@@ -1,91 +1,92 @@
 -- `work::gain_rest` meets its contract. Assumes nothing.
-use mathlib.Core.Path.{_≡_}
-use Prim.Native.Nat.{_+_, _-_, _*_, _≤_}
+use mathlib.Core.Path.{_≡_, refl}
+use Prim.Native.Nat.{ℕ, _+_, _-_, _*_, _/_, _≤_, _<_}
 use native.Mathlib.Omega.{arith}
 use borrow.Author.Needs.{needs}
 use lib.ListN.{length}
-use Rattle.table.specs.Inner.{Gained}
-use Rattle.work.proofs.Folding.{rows-within, rowsAt, lent-row, start, turn}
+use Rattle.work.proofs.Folding.{rows-within, shorter, lent-row, turn-row}
 use Rattle.work.proofs.gain_rest.Statement.{statement}
 use Rattle.work.proofs.gain_rest.Tie as tie
 
-abbrev Inv-loop : tie.InvT-loop
-Inv-loop words work k inner from end out₀ y₀ out y =
-    (from ≤ y) × (y ≤ end) × Gained 0 inner (rowsAt k inner work words from (y - from)) out₀ out
+gain-pairs-requires : tie.Need-gain-pairs-requires
+gain-pairs-requires c κs =
+    let pre = c .before .before .before .before .pre in
+    (pre .0, shorter _ (omega (arith, pre .1 .ordered)) (omega arith) (pre .1))
 
-abbrev μ-loop : tie.MeasureT-loop
-μ-loop words work k inner from end out₀ y₀ out y = end - y
+returns : tie.Need-returns
+returns c =
+    let pairs = c .before .before .before in
+    let begin = pairs .before .before .before .before .before in
+    let from = begin .args .from in
+    let end = begin .args .end in
+    let q : 2 * ((end - from) / 2) ≡ end - from = omega (arith, c .if1 .taken) in
+    rw q at (pairs .gain-pairs .ensures)
 
-loop-holds : tie.Need-loop-holds Inv-loop μ-loop
-loop-holds c =
-    let pre = c .before .before .before .pre in
-    (omega arith, omega (arith, pre .1 .ordered), start _ _ _ _ _ _ _ (omega arith) (pre .1 .out-below))
+module _ (c : tie.Else1) where
+  abbrev pairs : tie.After-gain-pairs
+  pairs = c .before .before .before
 
-module _ (test : tie.In-loop Inv-loop μ-loop) where
-  abbrev at : tie.At-loop Inv-loop μ-loop
-  at = test .before
+  abbrev begin : tie.Start
+  begin = pairs .before .before .before .before .before
 
-  abbrev begin : tie.Start Inv-loop μ-loop
-  begin = at .before .before .before .before
+  -- the row that is left
+  abbrev gone : ℕ
+  gone = 2 * ((begin .args .end - begin .args .from) / 2)
 
-  within : at .loop .y * begin .args .inner + 1 * begin .args .inner ≤ length (begin .args .words .now)
-  within = rows-within _ _ 1 _ _ (omega (arith, test .loop-test .taken)) (begin .pre .1 .there)
+  abbrev y : ℕ
+  y = begin .args .from + gone
 
-  -- the words of row y
-  fits : at .loop .y * begin .args .inner + (at .loop .y * begin .args .inner + begin .args .inner - at .loop .y * begin .args .inner)
+  one : gone + 1 ≡ begin .args .end - begin .args .from
+  one = omega (arith, begin .pre .1 .ordered, c .if1 .left)
+
+  within : y * begin .args .inner + 1 * begin .args .inner ≤ length (begin .args .words .now)
+  within = rows-within _ y 1 _ _ (omega (arith, one, begin .pre .1 .ordered)) (begin .pre .1 .there)
+
+  fits : y * begin .args .inner + (y * begin .args .inner + begin .args .inner - y * begin .args .inner)
       ≤ length (begin .args .words .now)
   fits = omega (arith, within)
 
-weight-requires : tie.Need-weight-requires Inv-loop μ-loop
+weight-requires : tie.Need-weight-requires
 weight-requires c κs =
-    let test = c .before .before in
-    let pre = begin test .pre in
-    (pre .0, omega (arith, pre .1 .few, test .loop-test .taken))
+    let else = c .before .before in
+    let pre = begin else .pre in
+    (pre .0, omega (arith, pre .1 .few, pre .1 .ordered, one else))
 
-gain-row-requires : tie.Need-gain-row-requires Inv-loop μ-loop
+gain-row-requires : tie.Need-gain-row-requires
 gain-row-requires c κs =
-    let test = c .before .before .before in
-    let from = begin test in
-    let d = at test .loop .inv .2 in (
-      lent-row (from .args .k) (from .args .inner) (from .args .work .now) _ _ 1 _ (fits test) (omega arith) (from .pre .1 .below)
-          (omega (arith, d .len, from .pre .1 .room)) (omega arith),
+    let else = c .before .before .before in
+    let from = begin else in (
+      lent-row (from .args .k) (from .args .inner) (from .args .work .now) _ _ 1 _ (fits else) (omega arith) (from .pre .1 .below)
+          (omega (arith, pairs else .gain-pairs .ensures .len, from .pre .1 .room)) (omega arith),
       c .weight .ensures .below,
     )
 
-loop-again : tie.Need-loop-again Inv-loop μ-loop
-loop-again c =
-    let gain = c .before .before in
-    let weight = gain .before in
-    let test = weight .before .before .before in
-    let inv = at test .loop .inv in (
-      omega (arith, inv .0),
-      omega (arith, test .loop-test .taken),
-      turn _ _ _ _ _ _ _ (fits test) (omega arith) (inv .0) _ _ (inv .2) _ (weight .weight .ensures) (gain .gain-row .ensures),
-    )
-
-returns : tie.Need-returns Inv-loop μ-loop
-returns c =
-    let at = c .before in
-    let q : at .loop .y ≡ at .before .before .before .before .args .end = omega arith in
-    rw q at (at .loop .inv .2)
+returns-2 : tie.Need-returns-2
+returns-2 c =
+    let row = c .before .before in
+    let weight = row .before in
+    let else = weight .before .before .before in
+    let d = turn-row _ _ _ _ _ (gone else) _ _ refl (fits else) (omega arith) (pairs else .gain-pairs .ensures) (weight .weight .ensures)
+    (row .gain-row .ensures) in
+    rw (one else) at d
 
 pub gain-rest-spec : {M : Type 1} → statement M
 gain-rest-spec =
     tie.close
     (tie.spec
-    Inv-loop
-    μ-loop
-    loop-holds
+    (search needs)
+    gain-pairs-requires
+    (search needs)
+    (search needs)
+    (search needs)
+    returns
     (λ c. omega (arith, within c, begin c))
     (λ c. omega (arith, within c, begin c))
     (λ c. omega (arith, within (c .before), begin (c .before)))
-    (λ c. omega (arith, within (c .before), begin (c .before)))
-    (λ c. omega (arith, within (c .before), begin (c .before)))
+    (search needs)
+    (search needs)
     (λ c. omega (arith, within (c .before), begin (c .before)))
     weight-requires
     gain-row-requires
     (search needs)
-    (search needs)
-    loop-again
-    (search needs)
-    returns)
+    returns-2)
