@@ -35,20 +35,19 @@ even n (suc v) e h = omega (arith, pow-suc 2 v)
 
 -- a table of a variable or more has two halves
 module _ (ws : List ℕ) (b : length ws < 2 ^ 64) where
-  halves : {r : Element} → splits ws ≡ false → notPower (entries ws) ≡ false → unreduced p ws ≡ false → entries ws ≢ 1 → Reduced r
-      → Halves (entries ws / 2) r ws
-  halves s n u h d =
+  halves : splits ws ≡ false → notPower (entries ws) ≡ false → unreduced p ws ≡ false → entries ws ≢ 1 → Halves (entries ws / 2) ws
+  halves s n u h =
       let w : 4 * entries ws ≡ length ws = whole ws s in
       let e : entries ws ≡ 2 * (entries ws / 2) = even (entries ws) _ (power-of (entries ws) (omega arith) n) h in
-      record { few = omega arith; count = omega arith; below = u; by = d }
+      record { few = omega arith; count = omega arith; below = u }
 
-  pub fix-tested : (r : Element) → Accepted ≡ verdict (fixTests ws r) → Halves (entries ws / 2) r ws
+  pub fix-tested : (r : Element) → Accepted ≡ verdict (fixTests ws r) → Halves (entries ws / 2) ws × Reduced r
   fix-tested r e =
       let h : Clear (fixTests ws r) = clear (fixTests ws r) e in
       let u : (unreduced p ws ≡ false) × (unreduced p (r .c) ≡ false) = or-none (unreduced p ws) (unreduced p (r .c)) (h .1 .1 .1 .0) in
-      halves (h .0) (h .1 .0) (u .0) (eqb-false (entries ws) 1 (h .1 .1 .1 .1 .0)) (record { words-below = u .1 })
+      (halves (h .0) (h .1 .0) (u .0) (eqb-false (entries ws) 1 (h .1 .1 .1 .1 .0)), record { words-below = u .1 })
 
-  pub sum-tested : {r : Element} → Accepted ≡ verdict (sumTests ws) → entries ws ≢ 1 → Reduced r → Halves (entries ws / 2) r ws
+  pub sum-tested : Accepted ≡ verdict (sumTests ws) → entries ws ≢ 1 → Halves (entries ws / 2) ws
   sum-tested e =
       let h : Clear (sumTests ws) = clear (sumTests ws) e in
       halves (h .0) (h .1 .0) (h .1 .1 .1 .0)

@@ -1,4 +1,4 @@
--- The loop of `halve`: where it reads, how it starts, steps and ends. Assumes nothing.
+-- The loops that halve a table, for any rule: where one reads, how it starts, steps and ends. Assumes nothing.
 use mathlib.Core.Path.{_≡_, refl, ap, _∙_}
 use mathlib.Core.Bool.{false}
 use Prim.Native.Nat.{ℕ, _+_, _*_, _≤_, _<_}
@@ -55,12 +55,9 @@ start rule h r ws =
     record { within = omega arith; len = refl; done = λ y l. absurd (omega arith); ahead = λ y l. refl; rest = refl }
 
 module _ (rule : Rule) (h i : ℕ) (r : Ext) (ws w : List ℕ) (d : Halving rule h i r ws w) where
-  -- an entry that is read is within the words, and reduced as it was
-  pub room : (j : ℕ) → Ahead h i j → length ws ≡ 8 * h → {k : ℕ} → k ≡ j → 4 * k + 3 < length w
-  room j a l q = omega (arith, d .len)
-
-  pub read : (j : ℕ) → Ahead h i j → unreduced p ws ≡ false → {k : ℕ} {e : Element} → k ≡ j → e ≡ getAt w k → Reduced e
-  read j a u q g = rw (g, q, d .ahead j (a .0)) (reduced-at ws u j)
+  -- an entry that is read is reduced as it was
+  pub read : (j : ℕ) → Ahead h i j → unreduced p ws ≡ false → {e : Element} → e ≡ getAt w j → Reduced e
+  read j a u g = rw (g, d .ahead j (a .0)) (reduced-at ws u j)
 
   module _ (m : i < h) (l : length ws ≡ 8 * h) where
     abbrev new : Element
@@ -79,17 +76,14 @@ module _ (rule : Rule) (h i : ℕ) (r : Ext) (ws w : List ℕ) (d : Halving rule
         }
 
     -- of the values that the calls of a turn give
-    pub turn : {k₀ k₁ : ℕ} {a₀ a₁ e : Element} {w₁ : List ℕ} → k₀ ≡ firstOf rule i → a₀ ≡ getAt w k₀
-        → k₁ ≡ secondOf rule h i → a₁ ≡ getAt w k₁
+    pub turn : {a₀ a₁ e : Element} {w₁ : List ℕ} → a₀ ≡ getAt w (firstOf rule i) → a₁ ≡ getAt w (secondOf rule h i)
         → Holds e (combined rule (fromWords a₀) (fromWords a₁) r) → w₁ ≡ putAt w i e → Halving rule h (i + 1) r ws w₁
-    turn e₀ g₀ e₁ g₁ e₂ e₃ =
+    turn g₀ g₁ e₂ e₃ =
         rw (
           e₃,
           e₂ .words,
           g₀,
           g₁,
-          e₀,
-          e₁,
           d .ahead (firstOf rule i) (first-ahead rule h i m .0),
           d .ahead (secondOf rule h i) (second-ahead rule h i m .0),
           combined-at rule h i (elementAt ws) r,

@@ -1,2 +1,3 @@
 mod Halving
+mod Scaled
 mod FixingOutcomes

@@ -5,19 +5,17 @@
 //
 // The second half keeps its words.
 use field::Element;
+use field::word;
 use table::Refusal;
 use table::Verdict;
 ghost use mathlib.Core.Path.{_≡_};
-ghost use Prim.Native.Nat.{_*_, _<_};
-ghost use mathlib.Core.List.{_++_};
-ghost use lib.ListN.{drop};
+ghost use Prim.Native.Nat.{_+_, _*_, _%_, _<_};
 ghost use Rattle.algebra.specs.Ring.{Ops};
-ghost use Rattle.field.specs.Field.{field, fromWords, Reduced, Holds};
+ghost use Rattle.field.specs.Field.{p, field, fromWords, at, Reduced, Holds};
 ghost use Rattle.table.specs.Refusals.{verdict};
-ghost use Rattle.table.specs.Table.{tableWords, elementAt};
-ghost use Rattle.fixing.specs.declared.Rule.the-variants.{Prefix, Suffix, Monomial};
-ghost use Rattle.fixing.specs.Fixing.{fixTests, sumTests, fixAnswer, fixOut, sumAnswer, sumOut, fixedAt};
-ghost use Rattle.fixing.specs.Inner.{Halves, combined, firstOf, secondOf};
+ghost use Rattle.fixing.specs.declared.Rule.the-variants.{Prefix, Suffix, Sum, Monomial};
+ghost use Rattle.fixing.specs.Fixing.{fixTests, sumTests, fixAnswer, fixOut, sumAnswer, sumOut};
+ghost use Rattle.fixing.specs.Inner.{Halves, Scaled, halved, combined};
 
 // Which two entries become one, and how.
 pub enum Rule {
@@ -116,50 +114,106 @@ fn test_sum(entries: &[u32]) -> Verdict
         .refuse_if(field::unreduced(entries), Refusal::Unreduced)
 }
 
-// The first h of 2h entries become what the rule makes of two. An entry is written after the last that reads it.
+// The first h of 2h entries become what the rule makes of two: one loop a rule, chosen once.
 fn halve(entries: &mut [u32], h: usize, rule: Rule, r: Element)
-    requires { ⌜ Halves h r (now entries) ⌝ }
-    ensures { λ _. ⌜ now (entries .exit) ≡ tableWords h (fixedAt rule h (elementAt (now (entries .entry))) (fromWords r)) ++ drop (4 * h) (now (entries .entry)) ⌝ }
+    requires { ⌜ Halves h (now entries) × Reduced r ⌝ }
+    ensures { λ _. ⌜ now (entries .exit) ≡ halved rule h (now (entries .entry)) (fromWords r) ⌝ }
+{
+    match rule {
+        Rule::Prefix => halve_prefix(entries, h, r),
+        Rule::Suffix => halve_suffix(entries, h, r),
+        Rule::Sum => halve_sum(entries, h),
+        Rule::Monomial => halve_monomial(entries, h, r),
+    }
+}
+
+// In each of these an entry is written after the last turn that reads it.
+fn halve_prefix(entries: &mut [u32], h: usize, r: Element)
+    requires { ⌜ Halves h (now entries) × Reduced r ⌝ }
+    ensures { λ _. ⌜ now (entries .exit) ≡ halved Prefix h (now (entries .entry)) (fromWords r) ⌝ }
+{
+    let t = r.mul_base(Element::FACTOR);
+    for i in 0..h {
+        let a0 = table::get(entries, i);
+        let a1 = table::get(entries, h + i);
+        table::put(entries, i, line(a0, a1, r, t));
+    }
+}
+
+fn halve_suffix(entries: &mut [u32], h: usize, r: Element)
+    requires { ⌜ Halves h (now entries) × Reduced r ⌝ }
+    ensures { λ _. ⌜ now (entries .exit) ≡ halved Suffix h (now (entries .entry)) (fromWords r) ⌝ }
+{
+    let t = r.mul_base(Element::FACTOR);
+    for i in 0..h {
+        let a0 = table::get(entries, 2 * i);
+        let a1 = table::get(entries, 2 * i + 1);
+        table::put(entries, i, line(a0, a1, r, t));
+    }
+}
+
+fn halve_sum(entries: &mut [u32], h: usize)
+    requires { ⌜ Halves h (now entries) ⌝ }
+    ensures { λ _. ⌜ now (entries .exit) ≡ halved Sum h (now (entries .entry)) (field .zero) ⌝ }
 {
     for i in 0..h {
-        let a0 = table::get(entries, first_of(rule, i));
-        let a1 = table::get(entries, second_of(rule, h, i));
-        table::put(entries, i, combine(rule, a0, a1, r));
+        let a0 = table::get(entries, i);
+        let a1 = table::get(entries, h + i);
+        table::put(entries, i, a0.add(a1));
     }
 }
 
-fn first_of(rule: Rule, i: usize) -> usize
-    requires { ⌜ i < 2305843009213693952 ⌝ }
-    ensures { λ x. ⌜ x ≡ firstOf rule i ⌝ }
+fn halve_monomial(entries: &mut [u32], h: usize, r: Element)
+    requires { ⌜ Halves h (now entries) × Reduced r ⌝ }
+    ensures { λ _. ⌜ now (entries .exit) ≡ halved Monomial h (now (entries .entry)) (fromWords r) ⌝ }
 {
-    match rule {
-        Rule::Suffix => 2 * i,
-        Rule::Prefix => i,
-        Rule::Sum => i,
-        Rule::Monomial => i,
+    let t = r.mul_base(Element::FACTOR);
+    for i in 0..h {
+        let a0 = table::get(entries, i);
+        let a1 = table::get(entries, h + i);
+        table::put(entries, i, monomial(a0, a1, r, t));
     }
 }
 
-fn second_of(rule: Rule, h: usize, i: usize) -> usize
-    requires { ⌜ (i < h) × (h < 2305843009213693952) ⌝ }
-    ensures { λ x. ⌜ x ≡ secondOf rule h i ⌝ }
+// a0 + (a1 - a0) r; t is r times the factor.
+fn line(a0: Element, a1: Element, r: Element, t: Element) -> Element
+    requires { ⌜ (Reduced a0 × Reduced a1) × Scaled r t ⌝ }
+    ensures { λ x. ⌜ Holds x (combined Prefix (fromWords a0) (fromWords a1) (fromWords r)) ⌝ }
 {
-    match rule {
-        Rule::Suffix => 2 * i + 1,
-        Rule::Prefix => h + i,
-        Rule::Sum => h + i,
-        Rule::Monomial => h + i,
+    a0.add(times(a1.sub(a0), r, t))
+}
+
+// a0 + a1 r; t is r times the factor.
+fn monomial(a0: Element, a1: Element, r: Element, t: Element) -> Element
+    requires { ⌜ (Reduced a0 × Reduced a1) × Scaled r t ⌝ }
+    ensures { λ x. ⌜ Holds x (combined Monomial (fromWords a0) (fromWords a1) (fromWords r)) ⌝ }
+{
+    a0.add(times(a1, r, t))
+}
+
+// x r by four divisions and not seven: what comes back from X^4 and above is multiplied by t, r times the factor.
+fn times(x: Element, r: Element, t: Element) -> Element
+    requires { ⌜ Reduced x × Scaled r t ⌝ }
+    ensures { λ y. ⌜ Holds y (field .mul (fromWords x) (fromWords r)) ⌝ }
+{
+    Element {
+        c: [
+            row(x, r.c[0], t.c[3], t.c[2], t.c[1]),
+            row(x, r.c[1], r.c[0], t.c[3], t.c[2]),
+            row(x, r.c[2], r.c[1], r.c[0], t.c[3]),
+            row(x, r.c[3], r.c[2], r.c[1], r.c[0]),
+        ],
     }
 }
 
-fn combine(rule: Rule, a0: Element, a1: Element, r: Element) -> Element
-    requires { ⌜ (Reduced a0 × Reduced a1) × Reduced r ⌝ }
-    ensures { λ x. ⌜ Holds x (combined rule (fromWords a0) (fromWords a1) (fromWords r)) ⌝ }
+fn row(x: Element, a: u32, b: u32, c: u32, d: u32) -> u32
+    requires { ⌜ Reduced x × (((a < p) × (b < p)) × ((c < p) × (d < p))) ⌝ }
+    ensures { λ y. ⌜ y ≡ (at x 0 * a + at x 1 * b + at x 2 * c + at x 3 * d) % p ⌝ }
 {
-    match rule {
-        Rule::Prefix => a0.add(a1.sub(a0).mul(r)),
-        Rule::Suffix => a0.add(a1.sub(a0).mul(r)),
-        Rule::Sum => a0.add(a1),
-        Rule::Monomial => a0.add(a1.mul(r)),
-    }
+    word::residue(
+        word::wide(x.c[0], a)
+            + word::wide(x.c[1], b)
+            + word::wide(x.c[2], c)
+            + word::wide(x.c[3], d),
+    )
 }

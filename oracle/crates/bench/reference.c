@@ -1,14 +1,40 @@
-/* The product of two elements by hand: sums of products in 64 bits, and those
-   of X^4, X^5 and X^6 reduced before they are multiplied by 11. Seven `%`. */
+/* The kernels by hand, each in the form that the proved code has, with the same
+   test of the words that are read. A table has 2^n words; points and elements
+   are four words each. The answer is 5 where a word is not below p, else 0. */
 
+#include <stddef.h>
 #include <stdint.h>
+#include <string.h>
 
 #define P 2013265921u
+
+/* The most coordinates of a block. */
+#define BLOCK 8
 
 typedef struct {
     uint32_t c[4];
 } element;
 
+static const element one = {{1, 0, 0, 0}};
+
+static inline element plus(element x, element y) {
+    for (int i = 0; i < 4; i++) {
+        uint32_t sum = x.c[i] + y.c[i];
+        x.c[i] = sum >= P ? sum - P : sum;
+    }
+    return x;
+}
+
+static inline element minus(element x, element y) {
+    for (int i = 0; i < 4; i++) {
+        uint32_t difference = x.c[i] - y.c[i];
+        x.c[i] = x.c[i] < y.c[i] ? difference + P : difference;
+    }
+    return x;
+}
+
+/* Sums of products in 64 bits, and those of X^4, X^5 and X^6 reduced before they
+   are multiplied by 11. Seven `%`. */
 static inline element product(element x, element y) {
     uint64_t x0 = x.c[0], x1 = x.c[1], x2 = x.c[2], x3 = x.c[3];
     uint64_t y0 = y.c[0], y1 = y.c[1], y2 = y.c[2], y3 = y.c[3];
@@ -25,13 +51,132 @@ static inline element product(element x, element y) {
 }
 
 /* out = x * y^times, one product after the other. */
-void reference_mul_repeat(const uint32_t *x, const uint32_t *y, uint64_t times, uint32_t *out) {
-    element a = {{x[0], x[1], x[2], x[3]}};
-    element b = {{y[0], y[1], y[2], y[3]}};
+uint32_t reference_mul_repeat(const element *x, const element *y, uint64_t times, element *out) {
+    element a = *x, b = *y;
     for (uint64_t i = 0; i < times; i++) {
         a = product(a, b);
     }
-    for (int i = 0; i < 4; i++) {
-        out[i] = a.c[i];
+    *out = a;
+    return 0;
+}
+
+/* The test of words: every one is looked at. */
+uint32_t reference_unreduced(const uint32_t *words, size_t count) {
+    uint32_t found = 0;
+    for (size_t i = 0; i < count; i++) {
+        found |= words[i] >= P;
     }
+    return found ? 5 : 0;
+}
+
+static uint32_t unreduced(const element *elements, int count) {
+    return reference_unreduced((const uint32_t *)elements, 4 * (size_t)count);
+}
+
+/* The table of scale eq of k coordinates, doubled by one after another. */
+static void fill(element *out, const element *point, int k, element scale) {
+    out[0] = scale;
+    for (int j = 0; j < k; j++) {
+        size_t n = (size_t)1 << j;
+        element c = point[k - 1 - j];
+        for (size_t i = 0; i < n; i++) {
+            element high = product(out[i], c);
+            out[n + i] = high;
+            out[i] = minus(out[i], high);
+        }
+    }
+}
+
+uint32_t reference_new_from_point(const element *point, int k, const element *scale, element *out) {
+    if (unreduced(point, k) | unreduced(scale, 1)) {
+        return 5;
+    }
+    fill(out, point, k, *scale);
+    return 0;
+}
+
+/* The dot product of weights and words, a multiple of four of them: four
+   products fit 64 bits, and their sums are kept as two halves of 32 bits. */
+static element dot(const element *weights, const uint32_t *words, size_t count) {
+    uint64_t lo[4] = {0}, hi[4] = {0};
+    for (size_t i = 0; i < count; i += 4) {
+        for (int k = 0; k < 4; k++) {
+            uint64_t sum = (uint64_t)weights[i].c[k] * words[i] + (uint64_t)weights[i + 1].c[k] * words[i + 1]
+                + (uint64_t)weights[i + 2].c[k] * words[i + 2] + (uint64_t)weights[i + 3].c[k] * words[i + 3];
+            lo[k] += (uint32_t)sum;
+            hi[k] += sum >> 32;
+        }
+    }
+    element out;
+    for (int k = 0; k < 4; k++) {
+        out.c[k] = (uint32_t)((lo[k] + (hi[k] % P << 32)) % P);
+    }
+    return out;
+}
+
+/* The value of 2^high blocks at the first coordinates, by halves. */
+static element part(const uint32_t *words, const element *point, int high, int low, const element *block) {
+    if (high == 0) {
+        return dot(block, words, (size_t)1 << low);
+    }
+    element at0 = part(words, point + 1, high - 1, low, block);
+    element at1 = part(words + ((size_t)1 << (high - 1 + low)), point + 1, high - 1, low, block);
+    return plus(at0, product(minus(at1, at0), point[0]));
+}
+
+static uint32_t tested(const uint32_t *table, int n, const element *point, int k, const element *scale) {
+    return reference_unreduced(table, (size_t)1 << n) | unreduced(point, k) | unreduced(scale, 1);
+}
+
+/* The suffix fold, k at least 2: dot products against a block's table of eq. */
+uint32_t reference_compress_suffix(const uint32_t *table, int n, const element *point, int k, const element *scale,
+    element *out) {
+    if (tested(table, n, point, k, scale)) {
+        return 5;
+    }
+    int low = k < BLOCK ? k : BLOCK;
+    element block[1 << BLOCK];
+    fill(block, point + (k - low), low, *scale);
+    for (size_t i = 0; i < (size_t)1 << (n - k); i++) {
+        out[i] = part(table + (i << k), point, k - low, low, block);
+    }
+    return 0;
+}
+
+/* The value of a table at a point of n coordinates. */
+uint32_t reference_eval_base(const uint32_t *table, int n, const element *point, element *out) {
+    return reference_compress_suffix(table, n, point, n, &one, out);
+}
+
+/* out gains four rows of n words, each by its weight: one `%` a coordinate. */
+static void gain_rows(element *restrict out, const uint32_t *restrict words, size_t n, const element *weights) {
+    element w0 = weights[0], w1 = weights[1], w2 = weights[2], w3 = weights[3];
+    for (size_t i = 0; i < n; i++) {
+        uint64_t x0 = words[i], x1 = words[n + i], x2 = words[2 * n + i], x3 = words[3 * n + i];
+        for (int k = 0; k < 4; k++) {
+            out[i].c[k] = (uint32_t)((out[i].c[k] + w0.c[k] * x0 + w1.c[k] * x1 + w2.c[k] * x2 + w3.c[k] * x3) % P);
+        }
+    }
+}
+
+/* The prefix fold, k at least 3: the tables of both halves of the point in work,
+   and four rows at a time. */
+uint32_t reference_compress_prefix(const uint32_t *table, int n, const element *point, int k, const element *scale,
+    element *work, element *out) {
+    if (tested(table, n, point, k, scale)) {
+        return 5;
+    }
+    size_t inner = (size_t)1 << (n - k), n1 = (size_t)1 << (k - k / 2);
+    element *eq1 = work + ((size_t)1 << (k / 2));
+    fill(work, point, k / 2, *scale);
+    fill(eq1, point + k / 2, k - k / 2, one);
+    memset(out, 0, inner * sizeof *out);
+    for (size_t y = 0; y < (size_t)1 << k; y += 4) {
+        element weights[4];
+        for (size_t j = 0; j < 4; j++) {
+            weights[j] = product(work[y / n1], eq1[y % n1 + j]);
+        }
+        gain_rows(out, table + y * inner, inner, weights);
+    }
+    return 0;
 }

@@ -14,9 +14,10 @@ returns c =
 halve-requires : tie.Need-halve-requires
 halve-requires c κs =
     let else = c .before .before in
-    let told = else .before in
-    sum-tested _ (omega arith) (sym (told .enum-told .given .1) ∙ told .before .before .test-sum .ensures) (else .if1 .left)
-    (c .zero .ensures .below)
+    let told = else .before in (
+      sum-tested _ (omega arith) (sym (told .enum-told .given .1) ∙ told .before .before .test-sum .ensures) (else .if1 .left),
+      c .zero .ensures .below,
+    )
 
 returns-2 : tie.Need-returns-2
 returns-2 c = sum-refused _ (sym (c .before .tested .given .1) ∙ c .before .before .before .test-sum .ensures)

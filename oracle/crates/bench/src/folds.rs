@@ -1,202 +1,124 @@
-//! Values and folds of a table of 2^20 words beside the Rust, and the session
-//! beside the fold in one call. Tables of weights are made in every run, on both
-//! sides, and out is allocated in every run.
+//! The four split folds, and adding a point's weights to a table.
 
 use p3_field::{Base, Element};
-use p3_multilinear_util::point::Point;
 use p3_multilinear_util::poly::{Poly, PolyView};
 use p3_multilinear_util::split_eq::SplitEq;
 
-use crate::table;
+use crate::bench::Bench;
+use crate::input::{GIVEN, Input, MOST, SCALE, elements, given, scale};
+use crate::reference;
+use crate::side::Who::{C, Ours, Rust};
+use crate::side::{Side, Who, Words};
 
-const N: usize = 20;
-const WORDS: u64 = 1 << N;
-const SCALE: [u32; 4] = [123456789, 987654321, 192837465, 564738291];
+type Split = SplitEq<Base, Element>;
 
-/// The coordinates and the words of a piece. A feed reads all of out, so small
-/// pieces into a large out are left aside.
-const PIECES: [(usize, usize); 8] = [
-    (10, 16),
-    (20, 16),
-    (0, 4096),
-    (10, 4096),
-    (20, 4096),
-    (0, 1 << 20),
-    (10, 1 << 20),
-    (20, 1 << 20),
-];
+/// table, point, scale, work, out.
+pub type Fold = fn(&[u32], &[u32], &[u32], &mut [u32], &mut [u32]) -> u32;
+pub type RustFold = fn(&Split, PolyView<'_, Base>) -> Poly<Element>;
 
-/// The first and the last words of what a call leaves.
-type Ends = [u32; 8];
+pub const PREFIX: (&str, Fold, RustFold) = ("compress_prefix", host::compress_prefix, |s, t| {
+    s.compress_prefix(t)
+});
+pub const PREFIX_SHIFTED: (&str, Fold, RustFold) = (
+    "compress_prefix_shifted",
+    host::compress_prefix_shifted,
+    |s, t| s.compress_prefix_shifted(t),
+);
+pub const SUFFIX: (&str, Fold, RustFold) = ("compress_suffix", host::compress_suffix, |s, t| {
+    s.compress_suffix(t)
+});
+pub const SUFFIX_SHIFTED: (&str, Fold, RustFold) = (
+    "compress_suffix_shifted",
+    host::compress_suffix_shifted,
+    |s, t| s.compress_suffix_shifted(t),
+);
 
-type Fold = fn(&[u32], &[u32], &[u32], &mut [u32], &mut [u32]) -> u32;
-type RustFold = fn(&SplitEq<Base, Element>, PolyView<'_, Base>) -> Poly<Element>;
+const COORDINATES: [usize; 4] = [1, 10, 19, 20];
 
-struct Input {
-    words: Vec<u32>,
-    table: Poly<Base>,
-    point: Vec<u32>,
-}
-
-impl Input {
-    /// Words below p from a fixed seed.
-    fn new() -> Self {
-        let mut state = 1u64;
-        let mut word = || {
-            state = state.wrapping_mul(6364136223846793005).wrapping_add(1);
-            (state >> 33) as u32 % 2013265921
-        };
-        let words: Vec<u32> = (0..WORDS).map(|_| word()).collect();
-        let point = (0..4 * N).map(|_| word()).collect();
-        let table = Poly::new(words.iter().map(|&word| Base::new(word)).collect());
-        Self {
-            words,
-            table,
-            point,
+pub fn run(bench: &mut Bench, input: &Input) {
+    let n = MOST;
+    for (name, ours, rust) in [PREFIX, PREFIX_SHIFTED, SUFFIX, SUFFIX_SHIFTED] {
+        for k in COORDINATES {
+            bench.case(name, n, format!("k = {k}"), || {
+                let mut sides = fold(input, n, k, ours, rust);
+                if k == 10 {
+                    sides.extend(by_hand(input, n, k, name));
+                }
+                sides
+            });
         }
     }
-
-    fn coordinates(&self, k: usize) -> &[u32] {
-        &self.point[..4 * k]
-    }
-
-    fn point(&self, k: usize) -> Point<Element> {
-        let elements = self.coordinates(k).as_chunks().0;
-        Point::new(elements.iter().map(|&words| Element::new(words)).collect())
-    }
-
-    fn fold(&self, fold: Fold, k: usize) -> Ends {
-        let mut work = vec![0; 4 * ((1 << (k / 2)) + (1 << (k - k / 2)))];
-        let mut out = vec![0; 4 << (N - k)];
-        let answer = fold(
-            &self.words,
-            self.coordinates(k),
-            &SCALE,
-            &mut work,
-            &mut out,
-        );
-        assert_eq!(answer, 0);
-        ends(&out)
-    }
-
-    fn rust_fold(&self, fold: RustFold, k: usize) -> Ends {
-        let split = SplitEq::new_unpacked(&self.point(k), Element::new(SCALE));
-        let out = fold(&split, self.table.as_view()).into_evals();
-        let mut both = out[0].words().to_vec();
-        both.extend(out[out.len() - 1].words());
-        ends(&both)
-    }
-
-    /// The table fed in pieces of this many words.
-    fn session(&self, side: u32, weight: u32, k: usize, piece: usize) -> Ends {
-        let mut session = [0; 90];
-        let mut out = vec![0; 4 << (N - k)];
-        let point = self.coordinates(k);
-        let n = N as u64;
-        assert_eq!(
-            host::session_open(point, &SCALE, n, side, weight, &mut session, &mut out),
-            0
-        );
-        for piece in self.words.chunks(piece) {
-            assert_eq!(host::session_feed(piece, &mut session, &mut out), 0);
-        }
-        assert_eq!(host::session_close(&mut session, &mut out), 0);
-        ends(&out)
+    for k in COORDINATES {
+        bench.case("accumulate_into", k, format!("k = {k}"), || {
+            accumulate(input, k)
+        });
     }
 }
 
-fn ends(out: &[u32]) -> Ends {
-    let mut ends = [0; 8];
-    ends[..4].copy_from_slice(&out[..4]);
-    ends[4..].copy_from_slice(&out[out.len() - 4..]);
-    ends
+/// Both ways of the Rust, and ours.
+pub fn fold(input: &Input, n: usize, k: usize, fold: Fold, rust: RustFold) -> Vec<Side<'_>> {
+    let mut sides = rust_fold(input, n, k, rust);
+    sides.push(our_fold(Ours, input, n, k, fold));
+    sides
 }
 
-fn value(call: fn(&[u32], &[u32], &mut [u32]) -> u32, input: &Input) -> [u32; 4] {
-    let mut out = [0; 4];
-    assert_eq!(call(&input.words, &input.point, &mut out), 0);
-    out
+/// With the second table of the point packed, at width one, and unpacked.
+pub fn rust_fold(input: &Input, n: usize, k: usize, fold: RustFold) -> Vec<Side<'_>> {
+    let news: [fn(&_, _) -> Split; 2] = [Split::new_packed, Split::new_unpacked];
+    let sides = news.map(|new| {
+        let point = input.point(k);
+        Side::given(Rust, move || fold(&new(&point, scale()), input.table(n)))
+    });
+    sides.into()
 }
 
-fn values(runs: usize, input: &Input) {
-    let point = input.point(N);
-    table(
-        "eval_base, n = 20, a word",
-        WORDS,
-        runs,
-        &[
-            ("ours", &|| value(host::poly_eval_base, input)),
-            ("Rust", &|| input.table.eval_base(&point).words()),
-        ],
-    );
-    table(
-        "eval_next_base, n = 20, a word",
-        WORDS,
-        runs,
-        &[
-            ("ours", &|| value(host::poly_eval_next_base, input)),
-            ("Rust", &|| input.table.eval_next_base(&point).words()),
-        ],
-    );
+pub fn our_fold(who: Who, input: &Input, n: usize, k: usize, fold: Fold) -> Side<'_> {
+    let mut work = work(k);
+    Side::lent(who, 4 << (n - k), move |out| {
+        fold(input.words(n), input.coordinates(k), &SCALE, &mut work, out)
+    })
 }
 
-fn folds(runs: usize, input: &Input) {
-    let both: [(&str, Fold, RustFold); 4] = [
-        ("compress_prefix", host::compress_prefix, |s, t| {
-            s.compress_prefix(t)
-        }),
-        (
-            "compress_prefix_shifted",
-            host::compress_prefix_shifted,
-            |s, t| s.compress_prefix_shifted(t),
-        ),
-        ("compress_suffix", host::compress_suffix, |s, t| {
-            s.compress_suffix(t)
-        }),
-        (
-            "compress_suffix_shifted",
-            host::compress_suffix_shifted,
-            |s, t| s.compress_suffix_shifted(t),
-        ),
-    ];
-    for (name, ours, rust) in both {
-        for k in [1, 10, 19, 20] {
-            table(
-                &format!("{name}, n = 20, k = {k}, a word"),
-                WORDS,
-                runs,
-                &[
-                    ("ours", &|| input.fold(ours, k)),
-                    ("Rust", &|| input.rust_fold(rust, k)),
-                ],
-            );
-        }
+/// The plain folds in C.
+fn by_hand<'a>(input: &'a Input, n: usize, k: usize, name: &str) -> Option<Side<'a>> {
+    let (words, point) = (input.words(n), input.coordinates(k));
+    let mut work = work(k);
+    match name {
+        "compress_prefix" => Some(Side::lent(C, 4 << (n - k), move |out| {
+            reference::compress_prefix(words, point, &SCALE, &mut work, out)
+        })),
+        "compress_suffix" => Some(Side::lent(C, 4 << (n - k), |out| {
+            reference::compress_suffix(words, point, &SCALE, out)
+        })),
+        _ => None,
     }
 }
 
-fn sessions(runs: usize, input: &Input) {
-    let sides: [(&str, u32, Fold); 2] = [
-        ("prefix", 0, host::compress_prefix_shifted),
-        ("suffix", 1, host::compress_suffix_shifted),
-    ];
-    for (name, side, fold) in sides {
-        for (k, piece) in PIECES {
-            table(
-                &format!("session, {name}, shifted, k = {k}, pieces of {piece}, a word"),
-                WORDS,
-                runs,
-                &[
-                    ("ours", &|| input.session(side, 1, k, piece)),
-                    ("fold", &|| input.fold(fold, k)),
-                ],
-            );
-        }
-    }
+/// The words of a work buffer.
+pub fn work(k: usize) -> Vec<u32> {
+    vec![0; 4 * ((1 << (k / 2)) + (1 << (k - k / 2)))]
 }
 
-pub fn run(runs: usize) {
-    let input = Input::new();
-    values(runs, &input);
-    folds(runs, &input);
-    sessions(runs, &input);
+/// A run adds to what the run before left.
+fn accumulate(input: &Input, k: usize) -> Vec<Side<'_>> {
+    let entries = input.entries(k);
+    let news: [fn(&_, _) -> Split; 2] = [Split::new_packed, Split::new_unpacked];
+    let sides = news.map(|new| {
+        let (point, mut out) = (input.point(k), elements(entries));
+        Side::new(Rust, move |clock| {
+            clock.each(|| {
+                let split = new(&point, scale());
+                split.accumulate_into(&mut out, Some(given()));
+            });
+            clock.leaves(|| out.words());
+        })
+    });
+    let (point, mut work, mut out) = (input.coordinates(k), work(k), entries.to_vec());
+    let mut sides = Vec::from(sides);
+    sides.push(Side::new(Ours, move |clock| {
+        let call = || host::accumulate_into(point, &SCALE, &GIVEN, &mut work, &mut out);
+        assert_eq!(clock.each(call), 0);
+        clock.leaves(|| out.clone());
+    }));
+    sides
 }

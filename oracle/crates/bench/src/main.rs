@@ -1,87 +1,123 @@
-//! Times the proved operations beside the same formula in C and beside the Rust:
-//! same input, same process, runs interleaved, the least of them.
+//! Times the proved operations beside the Rust and, for the kernels, beside C:
+//! same input, same process, one thread, runs in turn, the least of them. Counts
+//! instructions by callgrind, and shows how time grows with the table.
 //!
-//!     bench [RUNS]
+//!     bench [--runs N] [--write]
+//!     bench --once ROW SIDE
+//!
+//! With --write the tables go into docs/SPEED.md and the plot into
+//! docs/speed.svg, in the folder that the variable BENCH_DOCS names. The second
+//! form runs one side of one row once, for callgrind.
 
+mod aims;
+mod bench;
+mod clock;
+mod counts;
+mod document;
+mod feeds;
 mod folds;
+mod frames;
+mod growth;
+mod input;
+mod plot;
+mod points;
+mod reference;
+mod report;
+mod sessions;
+mod side;
+mod svg;
+mod values;
+mod verdict;
+mod wards;
 
-use std::env;
-use std::hint::black_box;
-use std::time::Instant;
+use std::path::PathBuf;
+use std::{env, fs, process};
 
-use p3_field::Element;
+use bench::{Bench, Once};
+use input::Input;
 
-unsafe extern "C" {
-    fn reference_mul_repeat(x: *const u32, y: *const u32, times: u64, out: *mut u32);
-}
+const BUFFERS: &str = "\
+Buffers: out and work are allocated before the runs and are not cleared between them; what a call clears, it clears within its time.
+The Rust allocates what it gives back within its time, and frees it outside. A table of which a variable is fixed is put back before
+each run, outside the time; `accumulate_into` adds to what the run before left.
+";
 
-type Words = [u32; 4];
-
-/// One side of a table: its name and what is timed.
-type Side<'a, T> = (&'static str, &'a dyn Fn() -> T);
-
-/// Times the sides in turn and prints each one's least time for one of `units`
-/// in nanoseconds, and ours over it. Ours is the first; all must give the same.
-fn table<T: PartialEq + std::fmt::Debug>(title: &str, units: u64, runs: usize, sides: &[Side<T>]) {
-    let mut least = vec![f64::INFINITY; sides.len()];
-    let expected = sides[0].1();
-    for _ in 0..runs {
-        for (least, (name, side)) in least.iter_mut().zip(sides) {
-            let start = Instant::now();
-            let got = black_box(side());
-            *least = least.min(start.elapsed().as_secs_f64());
-            assert_eq!(got, expected, "{name} differs");
-        }
-    }
-    println!("{title}, least of {runs} runs");
-    for (i, (name, _)) in sides.iter().enumerate() {
-        let unit = least[i] * 1e9 / units as f64;
-        let ratio = match i {
-            0 => String::new(),
-            _ => format!("    ours/{name} {:.2}", least[0] / least[i]),
-        };
-        println!("  {name:<6}{unit:>9.2} ns{ratio}");
-    }
-}
-
-fn ours_mul_repeat(x: &Words, y: &Words, times: u64) -> Words {
-    let mut out = [0; 4];
-    assert_eq!(host::mul_repeat(x, y, times, &mut out), 0);
-    out
-}
-
-fn c_mul_repeat(x: &Words, y: &Words, times: u64) -> Words {
-    let mut out = [0; 4];
-    // Four words each, as the C function reads and writes.
-    unsafe { reference_mul_repeat(x.as_ptr(), y.as_ptr(), times, out.as_mut_ptr()) };
-    out
-}
-
-#[inline(never)]
-fn rust_mul_repeat(x: &Words, y: &Words, times: u64) -> Words {
-    let (mut product, y) = (Element::new(*x), Element::new(*y));
-    for _ in 0..times {
-        product *= y;
-    }
-    product.words()
+/// How often a row is run, and what is not timed.
+fn how(runs: usize) -> String {
+    let (fewest, budget) = (bench::FEWEST.min(runs), bench::BUDGET);
+    format!("Least of {fewest} to {runs} runs, as many as fit into {budget} s.\n\n{BUFFERS}")
 }
 
 fn main() {
-    let runs = env::args()
-        .nth(1)
-        .map_or(21, |runs| runs.parse().expect("usage: bench [RUNS]"));
-    let times = 1_000_000;
-    let x = black_box([123456789, 987654321, 192837465, 564738291]);
-    let y = black_box([1618033988, 1414213562, 1732050807, 577215664]);
-    table(
-        "product of two elements, x := x*y a million times",
-        times,
-        runs,
-        &[
-            ("ours", &|| ours_mul_repeat(&x, &y, times)),
-            ("C", &|| c_mul_repeat(&x, &y, times)),
-            ("Rust", &|| rust_mul_repeat(&x, &y, times)),
-        ],
-    );
-    folds::run(runs.div_ceil(3));
+    let (mut bench, writes) = arguments();
+    let input = Input::new();
+    points::run(&mut bench, &input);
+    values::run(&mut bench, &input);
+    folds::run(&mut bench, &input);
+    sessions::run(&mut bench, &input);
+    wards::run(&mut bench, &input);
+    frames::run(&mut bench, &input);
+    if bench.once.is_some() {
+        eprintln!("no such row");
+        process::exit(2);
+    }
+    let rows = &bench.rows;
+    let grown = growth::run(&input, bench.runs);
+    let counts = counts::run(&input);
+    let parts = [
+        ("machine", document::machine()),
+        ("times", report::times(rows) + "\n" + &how(bench.runs)),
+        ("counts", counts.text),
+        ("growth", growth::text(&grown)),
+        ("feeds", feeds::text(rows)),
+        ("aims", verdict::aims(rows, &counts.parts)),
+        ("missed", verdict::misses(rows)),
+    ];
+    report::progress("");
+    for (name, part) in &parts {
+        println!("{name}\n\n{part}");
+    }
+    if writes {
+        write(&parts, &plot::svg(&grown));
+    }
+}
+
+fn write(parts: &[(&str, String)], plot: &str) {
+    let folder = PathBuf::from(env::var_os("BENCH_DOCS").unwrap_or("docs".into()));
+    let written = document::write(&folder, parts);
+    if let Err(error) = written.and_then(|()| fs::write(folder.join("speed.svg"), plot)) {
+        eprintln!("docs: {error}");
+        process::exit(1);
+    }
+}
+
+/// The benchmark that is asked for, and whether the documents are written.
+fn arguments() -> (Bench, bool) {
+    let mut bench = Bench {
+        runs: 31,
+        once: None,
+        rows: vec![],
+    };
+    let mut writes = false;
+    let mut arguments = env::args().skip(1);
+    while let Some(argument) = arguments.next() {
+        match argument.as_str() {
+            "--write" => writes = true,
+            "--runs" => match arguments.next().and_then(|runs| runs.parse().ok()) {
+                Some(runs) if runs > 0 => bench.runs = runs,
+                _ => usage(),
+            },
+            "--once" => match (arguments.next(), arguments.next()) {
+                (Some(key), Some(who)) => bench.once = Some(Once { key, who }),
+                _ => usage(),
+            },
+            _ => usage(),
+        }
+    }
+    (bench, writes)
+}
+
+fn usage() -> ! {
+    eprintln!("usage: bench [--runs N] [--write]");
+    process::exit(2);
 }

@@ -1,0 +1,130 @@
+//! The fold session in pieces beside the fold in one call, and what one feed
+//! costs.
+
+use crate::bench::Bench;
+use crate::folds::{Fold, PREFIX, PREFIX_SHIFTED, SUFFIX, SUFFIX_SHIFTED, our_fold};
+use crate::input::{Input, MOST, SCALE};
+use crate::reference;
+use crate::side::Side;
+use crate::side::Who::{self, C, Ours};
+
+/// The words of a session.
+const WORDS: usize = 90;
+
+/// One feed, and the variables and coordinates of its session.
+pub const FEED: &str = "session, one feed";
+pub const FED: [(usize, usize); 3] = [(MOST, 20), (MOST, 10), (MOST, 0)];
+
+/// The name, side and weight of a session, and the fold in one call.
+const SESSIONS: [(&str, u32, u32, Option<Fold>); 6] = [
+    ("session, prefix, plain", 0, 0, Some(PREFIX.1)),
+    ("session, prefix, shifted", 0, 1, Some(PREFIX_SHIFTED.1)),
+    ("session, prefix, next", 0, 2, None),
+    ("session, suffix, plain", 1, 0, Some(SUFFIX.1)),
+    ("session, suffix, shifted", 1, 1, Some(SUFFIX_SHIFTED.1)),
+    ("session, suffix, next", 1, 2, None),
+];
+
+pub fn run(bench: &mut Bench, input: &Input) {
+    let n = MOST;
+    for (name, side, weight, fold) in SESSIONS {
+        for k in [10, 20] {
+            // A next fold in one call is there for all variables only.
+            let fold = fold.or((k == n).then_some(host::split_eval_next_base));
+            for piece in [16, 1024, 1 << n] {
+                let size = format!("k = {k}, {}", pieces(piece));
+                bench.case(name, n, size, || {
+                    let whole = Session { input, n, k };
+                    whole.sides(side, weight, piece, fold)
+                });
+            }
+        }
+    }
+    for (n, k) in FED {
+        for count in [0, 16] {
+            bench.case(FEED, n, one_feed(k, count), || {
+                vec![Session { input, n, k }.feed(count)]
+            });
+        }
+    }
+    // Of a feed without words the test of out is what takes time.
+    let k = 2;
+    bench.case("test of 2^20 words", n, String::new(), || {
+        vec![Session { input, n, k }.feed(0), check(4 << (n - k))]
+    });
+}
+
+pub fn one_feed(k: usize, count: usize) -> String {
+    format!("k = {k}, {count} words")
+}
+
+fn pieces(words: usize) -> String {
+    match words {
+        16 => "pieces of 16".into(),
+        1024 => "pieces of 1,024".into(),
+        _ => "whole".into(),
+    }
+}
+
+struct Session<'a> {
+    input: &'a Input,
+    n: usize,
+    k: usize,
+}
+
+impl<'a> Session<'a> {
+    fn sides(self, side: u32, weight: u32, piece: usize, fold: Option<Fold>) -> Vec<Side<'a>> {
+        let Self { input, n, k } = self;
+        let fold = fold.map(|fold| our_fold(Who::Fold, input, n, k, fold));
+        let mut sides = vec![self.fed(side, weight, piece)];
+        sides.extend(fold);
+        sides
+    }
+
+    fn places(&self) -> usize {
+        4 << (self.n - self.k)
+    }
+
+    fn open(&self, side: u32, weight: u32, out: &mut [u32]) -> [u32; WORDS] {
+        let mut session = [0; WORDS];
+        let point = self.input.coordinates(self.k);
+        let n = self.n as u64;
+        let answer = host::session_open(point, &SCALE, n, side, weight, &mut session, out);
+        assert_eq!(answer, 0);
+        session
+    }
+
+    /// From open to close, the table in pieces of this many words.
+    fn fed(self, side: u32, weight: u32, piece: usize) -> Side<'a> {
+        let words = self.input.words(self.n);
+        Side::lent(Ours, self.places(), move |out| {
+            let mut session = self.open(side, weight, out);
+            for piece in words.chunks(piece) {
+                assert_eq!(host::session_feed(piece, &mut session, out), 0);
+            }
+            host::session_close(&mut session, out)
+        })
+    }
+
+    /// One feed, always of the table's first words.
+    fn feed(self, count: usize) -> Side<'a> {
+        let piece = &self.input.words(self.n)[..count];
+        let mut out = vec![0; self.places()];
+        let session = self.open(0, 0, &mut out);
+        Side::new(Ours, move |clock| {
+            let answer = clock.each(|| {
+                let mut session = session;
+                host::session_feed(piece, &mut session, &mut out)
+            });
+            assert_eq!(answer, 0);
+        })
+    }
+}
+
+/// The test in C of so many words.
+fn check(count: usize) -> Side<'static> {
+    let words = vec![0; count];
+    Side::new(C, move |clock| {
+        assert_eq!(clock.each(|| reference::unreduced(&words)), 0);
+    })
+}

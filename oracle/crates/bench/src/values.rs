@@ -1,0 +1,94 @@
+//! Values of a table at a point, and fixing or summing a variable.
+
+use p3_field::{Base, Element};
+use p3_multilinear_util::poly::Poly;
+
+use crate::bench::Bench;
+use crate::input::{Input, MOST, SCALE, elements, scale};
+use crate::reference;
+use crate::side::Who::{C, Ours, Rust};
+use crate::side::{Side, Words};
+
+type Fix = fn(&[u32], &mut [u32], &mut [u32]) -> u32;
+type RustFix = fn(&mut Poly<Element>, Element);
+
+const FIXING: [(&str, Fix, RustFix); 4] = [
+    (
+        "fix_prefix_var_mut",
+        host::fix_prefix_var_mut,
+        |table, r| table.fix_prefix_var_mut(r),
+    ),
+    (
+        "fix_suffix_var_mut",
+        host::fix_suffix_var_mut,
+        |table, r| table.fix_suffix_var_mut(r),
+    ),
+    (
+        "fix_prefix_var_mut_monomial",
+        host::fix_prefix_var_mut_monomial,
+        |table, r| table.fix_prefix_var_mut_monomial(r),
+    ),
+    (
+        "sum_prefix_var_mut",
+        |_, table, out| host::sum_prefix_var_mut(table, out),
+        |table, _| table.sum_prefix_var_mut(),
+    ),
+];
+
+pub fn run(bench: &mut Bench, input: &Input) {
+    let n = MOST;
+    let k = || format!("k = {n}");
+    bench.case("Poly::eval_base", n, k(), || eval_base(input, n));
+    bench.case("Poly::eval_ext", n, k(), || eval_ext(input, n));
+    bench.case("Poly::eval_next_base", n, k(), || eval_next_base(input, n));
+    for (name, ours, rust) in FIXING {
+        bench.case(name, n, String::new(), || fix(input, n, ours, rust));
+    }
+}
+
+pub fn eval_base(input: &Input, n: usize) -> Vec<Side<'_>> {
+    let (words, coordinates, point) = (input.words(n), input.coordinates(n), input.point(n));
+    vec![
+        Side::given(Rust, move || input.table(n).eval_base(&point)),
+        Side::lent(Ours, 4, |out| host::poly_eval_base(words, coordinates, out)),
+        Side::lent(C, 4, |out| reference::eval_base(words, coordinates, out)),
+    ]
+}
+
+fn eval_ext(input: &Input, n: usize) -> Vec<Side<'_>> {
+    let (words, coordinates, point) = (input.entries(n), input.coordinates(n), input.point(n));
+    let table = Poly::new(elements(words));
+    vec![
+        Side::given(Rust, move || table.eval_ext::<Base>(&point)),
+        Side::lent(Ours, 4, |out| host::poly_eval_ext(words, coordinates, out)),
+    ]
+}
+
+fn eval_next_base(input: &Input, n: usize) -> Vec<Side<'_>> {
+    let (words, coordinates, point) = (input.words(n), input.coordinates(n), input.point(n));
+    vec![
+        Side::given(Rust, move || input.table(n).eval_next_base(&point)),
+        Side::lent(Ours, 4, |out| {
+            host::poly_eval_next_base(words, coordinates, out)
+        }),
+    ]
+}
+
+/// The table is put back before each run.
+fn fix(input: &Input, n: usize, ours: Fix, rust: RustFix) -> Vec<Side<'_>> {
+    let entries = input.entries(n);
+    let whole = elements(entries);
+    let (mut words, mut count) = (entries.to_vec(), [0]);
+    vec![
+        Side::new(Rust, move |clock| {
+            let mut table = Poly::new(whole.clone());
+            clock.once(|| rust(&mut table, scale()));
+            clock.leaves(|| table.words());
+        }),
+        Side::new(Ours, move |clock| {
+            words.copy_from_slice(entries);
+            assert_eq!(clock.once(|| ours(&SCALE, &mut words, &mut count)), 0);
+            clock.leaves(|| words[..4 * count[0] as usize].to_vec());
+        }),
+    ]
+}
