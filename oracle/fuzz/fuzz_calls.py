@@ -4,7 +4,6 @@ Run: python3 fuzz_calls.py LIBRARY.so [--seconds S] [--seed N] [--case I]
 Case I of seed N is always the same; --case runs it alone.
 """
 
-import argparse
 import ctypes
 import mmap
 import os
@@ -14,6 +13,7 @@ import sys
 import time
 
 import calls
+import options
 from fuzz_frames import any_word, element, high_word, low_word, spoil, word_for
 
 HANG_SECONDS = 60
@@ -416,17 +416,11 @@ def report_crash(seed, number, status, tally):
 
 
 def main():
-    parser = argparse.ArgumentParser(description="Holds the C calls against their model.")
-    parser.add_argument("library")
-    parser.add_argument("--seconds", type=float, default=60)
-    parser.add_argument("--seed", type=int, default=None)
-    parser.add_argument("--case", type=int, default=None, help="run only this case")
-    options = parser.parse_args()
-    os.nice(5)
-    seed = options.seed if options.seed is not None else int.from_bytes(os.urandom(4), "little")
+    chosen = options.read("Holds the C calls against their model.", "library")
+    seed = chosen.seed
     print("calls: seed %d" % seed, flush=True)
     tally = Tally()
-    sound = fuzz(os.path.abspath(options.library), seed, options.seconds, tally, options.case)
+    sound = fuzz(os.path.abspath(chosen.library), seed, chosen.seconds, tally, chosen.case)
     tally.print()
     sys.exit(0 if sound and not tally.crashes and not tally.numbers[Tally.DISAGREEMENTS] else 1)
 

@@ -4,7 +4,6 @@ Run: python3 fuzz_frames.py PROGRAM [--seconds S] [--seed N] [--case I]
 Case I of seed N is always the same; --case runs it alone.
 """
 
-import argparse
 import collections
 import os
 import random
@@ -17,6 +16,7 @@ import threading
 import time
 
 import frames
+import options
 from frames import foldframes
 from model import P
 
@@ -751,19 +751,13 @@ def guarded(work, failures):
 
 
 def main():
-    parser = argparse.ArgumentParser(description="Holds foldframes against its model.")
-    parser.add_argument("program")
-    parser.add_argument("--seconds", type=float, default=60)
-    parser.add_argument("--seed", type=int, default=None)
-    parser.add_argument("--case", type=int, default=None, help="run only this case")
-    options = parser.parse_args()
-    os.nice(5)
-    seed = options.seed if options.seed is not None else int.from_bytes(os.urandom(4), "little")
+    chosen = options.read("Holds foldframes against its model.", "program")
+    seed = chosen.seed
     print("frames: seed %d" % seed, flush=True)
-    fuzzer = Fuzzer(os.path.abspath(options.program), seed, options.seconds)
+    fuzzer = Fuzzer(os.path.abspath(chosen.program), seed, chosen.seconds)
     failures = []
-    if options.case is not None:
-        fuzzer.case(Runner(fuzzer.program, fuzzer.watchdog), options.case)
+    if chosen.case is not None:
+        fuzzer.case(Runner(fuzzer.program, fuzzer.watchdog), chosen.case)
     else:
         threads = [threading.Thread(target=guarded(fuzzer.work, failures)) for _ in range(THREADS)]
         for thread in threads:
