@@ -2,7 +2,7 @@
 use mathlib.Core.Path.{_≡_, refl}
 use mathlib.Core.List.{List, [], _∷_}
 use lib.Dec.{T}
-use Rattle.algebra.specs.Ring.{Ops, CommRing}
+use Rattle.algebra.specs.Ring.{Ops, CommRing, minus}
 use Rattle.algebra.specs.Quartic.{Quartic, quartic, constant}
 use Rattle.algebra.proofs.Normal.{Expr, var, zer, mul, expr-ops, agree}
 use Rattle.algebra.proofs.Solve.{solve, den}
@@ -10,6 +10,25 @@ use Rattle.algebra.proofs.Solve.{solve, den}
 -- two elements are equal if their coordinates are
 pub quartic-path {ℓ} : {A : Type ℓ} {a b : Quartic A} → a .x₀ ≡ b .x₀ → a .x₁ ≡ b .x₁ → a .x₂ ≡ b .x₂ → a .x₃ ≡ b .x₃ → a ≡ b
 quartic-path p q r s = λ i. record { x₀ = p i; x₁ = q i; x₂ = r i; x₃ = s i }
+
+-- the product by halves: the sum of a's halves, multiplied by b₀, b₁ and b₃·w, serves both halves of the product, and two products are added
+-- to each coordinate
+module _ {ℓ} {A : Type ℓ} (O : Ops A) (w : A) (a b : Quartic A) where
+  open Ops O using (add as _⊕_, mul as _⊗_)
+
+  infixl 65 _⊕_
+  infixl 70 _⊗_
+  abbrev row : A → A → A → A → A → A → A
+  row m n x c y d = (a .x₀ ⊕ a .x₂) ⊗ m ⊕ (a .x₁ ⊕ a .x₃) ⊗ n ⊕ x ⊗ c ⊕ y ⊗ d
+
+  abbrev pub halves : Quartic A
+  halves =
+      record {
+        x₀ = row (b .x₀) (b .x₃ ⊗ w) (a .x₂) (minus O (b .x₂ ⊗ w) (b .x₀)) (a .x₃) (minus O (b .x₁ ⊗ w) (b .x₃ ⊗ w));
+        x₁ = row (b .x₁) (b .x₀) (a .x₂) (minus O (b .x₃ ⊗ w) (b .x₁)) (a .x₃) (minus O (b .x₂ ⊗ w) (b .x₀));
+        x₂ = row (b .x₀) (b .x₃ ⊗ w) (a .x₀) (minus O (b .x₂) (b .x₀)) (a .x₁) (minus O (b .x₁) (b .x₃ ⊗ w));
+        x₃ = row (b .x₁) (b .x₀) (a .x₀) (minus O (b .x₃) (b .x₁)) (a .x₁) (minus O (b .x₂) (b .x₀));
+      }
 
 -- the general elements, as expressions
 abbrev A : Quartic Expr
@@ -68,3 +87,7 @@ module _ {ℓ} {R : Type ℓ} {O : Ops R} (𝓡 : CommRing O) (w : R) where
       (QE .mul (record { x₀ = var 1; x₁ = zer; x₂ = zer; x₃ = zer }) (record { x₀ = var 5; x₁ = zer; x₂ = zer; x₃ = zer }))
       (record { x₀ = mul (var 1) (var 5); x₁ = zer; x₂ = zer; x₃ = zer })
       tt tt tt tt
+
+  pub mul-halves : (a b : Quartic R) → halves O w a b ≡ quartic O w .mul a b
+  unfolding quartic
+  mul-halves a b = four a b a (halves expr-ops (var 0) A B) (QE .mul A B) tt tt tt tt

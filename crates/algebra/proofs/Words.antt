@@ -8,7 +8,7 @@ use mathlib.Core.List.{List, [], _∷_, _++_}
 use lib.Dec.{leb}
 use lib.ListN.{length, getD, take, drop, set, replicate}
 use lib.Seq.{drop-cons, drop-length, getD-drop}
-use borrow.Author.Tests.{leb-false, le-leb, lt-leb}
+use borrow.Author.Tests.{leb-false, lt-leb}
 use Rattle.algebra.specs.Residue.{Residue}
 use Rattle.algebra.specs.Quartic.{Quartic}
 use Rattle.algebra.specs.Words.{wordsOf, unreduced}
@@ -28,14 +28,6 @@ or-false false = refl
 module _ (m : ℕ) where
   -- a loop over the words ws, at word i
   module _ (ws : List ℕ) (i : ℕ) (h : i < length ws) where
-    pub found : m ≤ getD ws i 0 → unreduced m (drop i ws) ≡ true
-    unfolding unreduced
-    found q = rw (drop-cons ws i 0 h, le-leb m (getD ws i 0) q)
-
-    pub passed : getD ws i 0 < m → unreduced m (drop i ws) ≡ unreduced m (drop (i + 1) ws)
-    unfolding unreduced
-    passed q = rw (add-one, drop-cons ws i 0 h, lt-leb m (getD ws i 0) q)
-
     -- with what was found before
     pub onward : (found : Bool) → found || unreduced m (drop i ws) ≡ (found || leb m (getD ws i 0)) || unreduced m (drop (i + 1) ws)
     unfolding unreduced

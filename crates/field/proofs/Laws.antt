@@ -15,6 +15,7 @@ use Rattle.algebra.proofs.Quartics.{quartic-ring, constant-mul}
 use Rattle.algebra.proofs.Words.{below, words-reduced}
 use Rattle.algebra.proofs.Numbers.{numbers-again, numbers-add, numbers-sub, numbers-neg, numbers-scale, numbers-mul}
 use Rattle.field.specs.declared.Element.{Element}
+use Rattle.field.specs.Inner.{coefficients, coefficient}
 use Rattle.field.specs.Field.{p, p-pos, factor, Ext, field, base, toWords, fromWords, at, Reduced, Holds}
 
 pub field-ring : CommRing field
@@ -64,7 +65,7 @@ pub holds-again : (e : Element) → length (e .c) ≡ 4 → Reduced e → Holds 
 holds-again e l h = record { words = words-again e l h; below = h }
 
 -- the element of four words
-abbrev words : ℕ → ℕ → ℕ → ℕ → Element
+abbrev pub words : ℕ → ℕ → ℕ → ℕ → Element
 words a0 a1 a2 a3 = record { c = a0 ∷ a1 ∷ a2 ∷ a3 ∷ [] }
 
 pub zero-law : words 0 0 0 0 ≡ toWords (field .zero)
@@ -112,10 +113,9 @@ module _ (x y : Element) where
   unfolding field toWords wordsOf fromWords numbers reduce
   sub-law = ap toWords (numbers-sub p p-pos factor (at x 0) (at x 1) (at x 2) (at x 3) (at y 0) (at y 1) (at y 2) (at y 3))
 
-  pub mul-law : words ((at x 0 * at y 0 + factor * ((at x 1 * at y 3 + at x 2 * at y 2 + at x 3 * at y 1) % p)) % p)
-      ((at x 0 * at y 1 + at x 1 * at y 0 + factor * ((at x 2 * at y 3 + at x 3 * at y 2) % p)) % p)
-      ((at x 0 * at y 2 + at x 1 * at y 1 + at x 2 * at y 0 + factor * (at x 3 * at y 3 % p)) % p)
-      ((at x 0 * at y 3 + at x 1 * at y 2 + at x 2 * at y 1 + at x 3 * at y 0) % p)
+  pub mul-law : words ((coefficient x y 0 + factor * (coefficient x y 4 % p)) % p) ((coefficient x y 1 + factor * (coefficient x y 5 % p)) % p)
+      ((coefficient x y 2 + factor * (coefficient x y 6 % p)) % p)
+      (coefficient x y 3 % p)
       ≡ toWords (field .mul (fromWords x) (fromWords y))
-  unfolding field toWords wordsOf fromWords numbers reduce
+  unfolding field toWords wordsOf fromWords numbers reduce coefficients
   mul-law = ap toWords (numbers-mul p p-pos factor (at x 0) (at x 1) (at x 2) (at x 3) (at y 0) (at y 1) (at y 2) (at y 3))

@@ -3,7 +3,8 @@
 //     c = [c0, c1, c2, c3]   is   c0 + c1 X + c2 X^2 + c3 X^3
 //
 // Words are below p. The operations ask that of their operands and keep it; `unreduced` is the test.
-mod product;
+pub mod multiplier;
+pub mod product;
 pub mod word;
 
 ghost use mathlib.Core.Path.{_≡_};
@@ -102,7 +103,7 @@ impl Element {
         self.add(self)
     }
 
-    // The product, by seven divisions: `product` has its four coordinates.
+    // The product, by four divisions: `product` has its coordinates.
     pub fn mul(self, other: Element) -> Self
         requires { ⌜ Reduced self × Reduced other ⌝ }
         ensures { λ r. ⌜ Holds r (field .mul (fromWords self) (fromWords other)) ⌝ }
@@ -155,7 +156,8 @@ pub fn unreduced(ws: &[u32]) -> bool
     found
 }
 
-fn or_above(found: bool, w: u32) -> bool
+// What was found, or that w is not below the modulus.
+pub fn or_above(found: bool, w: u32) -> bool
     ensures { λ r. ⌜ r ≡ found || leb p w ⌝ }
 {
     if found { true } else { Element::MODULUS <= w }

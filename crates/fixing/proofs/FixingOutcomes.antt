@@ -1,7 +1,7 @@
 -- What an accepted list of tests says of a table, and answer and out of a call, by the verdict on its tests. Assumes nothing.
-use mathlib.Core.Path.{_≡_, refl, ap, _∙_}
+use mathlib.Core.Path.{_≡_, refl, sym, ap, _∙_}
 use mathlib.Core.Logic.{_≢_}
-use mathlib.Core.Bool.{false, cond}
+use mathlib.Core.Bool.{Bool, true, false, cond}
 use Prim.Native.Nat.{ℕ, zero, suc, _*_, _/_, _^_, _<_}
 use native.Mathlib.Nat.{pow-suc}
 use native.Mathlib.Omega.{arith}
@@ -14,19 +14,21 @@ use Rattle.algebra.specs.Words.{unreduced}
 use Rattle.field.specs.Field.{p, field, fromWords, Reduced}
 use Rattle.field.specs.declared.Element.{Element}
 use Rattle.table.specs.Table.{entries}
-use Rattle.table.specs.Refusals.{verdict, leaves, splits, notPower}
+use Rattle.table.specs.Refusals.{Test, _gives_, verdict, leaves, splits, notPower}
+use Rattle.table.specs.Inner.{refuseIf}
 use Rattle.table.specs.declared.Refusal.{Refusal}
+use Rattle.table.specs.declared.Refusal.the-variants.{Unreduced}
 use Rattle.table.specs.declared.Verdict.{Verdict}
 use Rattle.table.specs.declared.Verdict.the-variants.{Accepted, Refused}
 use Rattle.table.proofs.Tests.{whole, or-none}
 use Rattle.table.proofs.Powers.{power-of}
-use Rattle.table.proofs.Verdicts.{Clear, clear}
+use Rattle.table.proofs.Verdicts.{Clear, clear, one-more}
 use Rattle.fixing.specs.declared.Rule.{Rule}
 use Rattle.fixing.specs.declared.Rule.the-variants.{Sum}
 use Rattle.fixing.specs.declared.Remaining.{Remaining}
 use Rattle.fixing.specs.declared.Remaining.the-variants as remaining
 use Rattle.fixing.specs.Fixing.{fixTests, sumTests, fixedTable, remainingOf, fixAnswer, fixOut, sumAnswer, sumOut}
-use Rattle.fixing.specs.Inner.{Halves}
+use Rattle.fixing.specs.Inner.{sizeTests, Sized, unlessUnreduced, TwoHalves, Halves}
 
 -- a power of two but 1 is even
 even : (n v : ℕ) → n ≡ 2 ^ v → n ≢ 1 → n ≡ 2 * (n / 2)
@@ -35,22 +37,23 @@ even n (suc v) e h = omega (arith, pow-suc 2 v)
 
 -- a table of a variable or more has two halves
 module _ (ws : List ℕ) (b : length ws < 2 ^ 64) where
-  halves : splits ws ≡ false → notPower (entries ws) ≡ false → unreduced p ws ≡ false → entries ws ≢ 1 → Halves (entries ws / 2) ws
-  halves s n u h =
+  two-halves : splits ws ≡ false → notPower (entries ws) ≡ false → entries ws ≢ 1 → TwoHalves (entries ws / 2) ws
+  two-halves s n h =
       let w : 4 * entries ws ≡ length ws = whole ws s in
       let e : entries ws ≡ 2 * (entries ws / 2) = even (entries ws) _ (power-of (entries ws) (omega arith) n) h in
-      record { few = omega arith; count = omega arith; below = u }
+      record { few = omega arith; count = omega arith }
 
   pub fix-tested : (r : Element) → Accepted ≡ verdict (fixTests ws r) → Halves (entries ws / 2) ws × Reduced r
   fix-tested r e =
       let h : Clear (fixTests ws r) = clear (fixTests ws r) e in
       let u : (unreduced p ws ≡ false) × (unreduced p (r .c) ≡ false) = or-none (unreduced p ws) (unreduced p (r .c)) (h .1 .1 .1 .0) in
-      (halves (h .0) (h .1 .0) (u .0) (eqb-false (entries ws) 1 (h .1 .1 .1 .1 .0)), record { words-below = u .1 })
+      let t : TwoHalves (entries ws / 2) ws = two-halves (h .0) (h .1 .0) (eqb-false (entries ws) 1 (h .1 .1 .1 .1 .0)) in
+      (record { table = t; below = u .0 }, record { words-below = u .1 })
 
-  pub sum-tested : Accepted ≡ verdict (sumTests ws) → entries ws ≢ 1 → Halves (entries ws / 2) ws
-  sum-tested e =
-      let h : Clear (sumTests ws) = clear (sumTests ws) e in
-      halves (h .0) (h .1 .0) (h .1 .1 .1 .0)
+  pub sum-sized : Sized ws → entries ws ≢ 1 → TwoHalves (entries ws / 2) ws
+  sum-sized s =
+      let h : Clear (sizeTests ws) = clear (sizeTests ws) (s .accepted) in
+      two-halves (h .0) (h .1 .0)
 
 -- answer and out, at once
 both : (n : ℕ) (new old : List ℕ) (v : Verdict) {a : Verdict} {w : List ℕ} → v ≡ a → w ≡ leaves v new old
@@ -74,15 +77,34 @@ module _ (ws : List ℕ) where
   abbrev Summed : Remaining → List ℕ → Type 0
   Summed x w = (x ≡ sumAnswer ws) × (w ≡ sumOut ws)
 
-  pub sum-refused : {x : Refusal} → Refused x ≡ verdict (sumTests ws) → Summed (remaining.Refused x) ws
-  unfolding sumAnswer sumOut
-  sum-refused e = both (cond (eqb (entries ws) 1) 1 (entries ws / 2)) _ ws _ e refl
+  -- 5, the last of the sum's tests
+  abbrev last : Test
+  last = unreduced p ws gives Unreduced
 
-  pub sum-constant : Accepted ≡ verdict (sumTests ws) → entries ws ≡ 1 → Summed (remaining.Entries 1) ws
+  pub sum-refused : {x : Refusal} → Refused x ≡ verdict (sizeTests ws) → Summed (remaining.Refused x) ws
   unfolding sumAnswer sumOut
-  sum-constant e q = rw (eq-eqb (entries ws) 1 q) (both 1 ws ws Accepted e refl)
+  sum-refused e = both (cond (eqb (entries ws) 1) 1 (entries ws / 2)) _ ws _ (one-more (sizeTests ws) last e) refl
 
-  pub summed : {w : List ℕ} → Accepted ≡ verdict (sumTests ws) → entries ws ≢ 1 → w ≡ fixedTable Sum ws (field .zero)
-      → Summed (remaining.Entries (entries ws / 2)) w
-  unfolding sumAnswer sumOut
-  summed e h q = rw (ne-eqb (entries ws) 1 h) (both (entries ws / 2) (fixedTable Sum ws (field .zero)) ws Accepted e q)
+  -- the sizes are right: 5 decides
+  module _ (s : Sized ws) where
+    decided : (n : ℕ) (new : List ℕ) {x : Remaining} {w : List ℕ} → x ≡ unlessUnreduced (unreduced p ws) n → w ≡ cond (unreduced p ws) ws new
+        → (x ≡ remainingOf (verdict (sumTests ws)) n) × (w ≡ leaves (verdict (sumTests ws)) new ws)
+    decided n new {x} {w} e q = go (unreduced p ws) (one-more (sizeTests ws) last (s .accepted)) e q
+      where
+        go : (b : Bool) → refuseIf Accepted b Unreduced ≡ verdict (sumTests ws) → x ≡ unlessUnreduced b n → w ≡ cond b ws new
+            → (x ≡ remainingOf (verdict (sumTests ws)) n) × (w ≡ leaves (verdict (sumTests ws)) new ws)
+        go true v e q = rw e (both n new ws _ v q)
+        go false v e q = rw e (both n new ws _ v q)
+
+    pub sum-constant : entries ws ≡ 1 → {x : Remaining} → x ≡ unlessUnreduced (unreduced p ws) 1 → Summed x ws
+    unfolding sumAnswer sumOut
+    sum-constant q e = rw (eq-eqb (entries ws) 1 q) (decided 1 ws e (sym (same (unreduced p ws))))
+      where
+        same : (b : Bool) → cond b ws ws ≡ ws
+        same true = refl
+        same false = refl
+
+    pub summed : entries ws ≢ 1 → {x : Remaining} {w : List ℕ} → x ≡ unlessUnreduced (unreduced p ws) (entries ws / 2)
+        → w ≡ cond (unreduced p ws) ws (fixedTable Sum ws (field .zero)) → Summed x w
+    unfolding sumAnswer sumOut
+    summed h e q = rw (ne-eqb (entries ws) 1 h) (decided (entries ws / 2) (fixedTable Sum ws (field .zero)) e q)

@@ -1,3 +1,4 @@
+mod Making
 mod Halving
-mod Scaled
+mod Summing
 mod FixingOutcomes

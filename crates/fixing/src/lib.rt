@@ -5,17 +5,24 @@
 //
 // The second half keeps its words.
 use field::Element;
-use field::word;
+use field::multiplier::Multiplier;
 use table::Refusal;
 use table::Verdict;
 ghost use mathlib.Core.Path.{_≡_};
-ghost use Prim.Native.Nat.{_+_, _*_, _%_, _<_};
-ghost use Rattle.algebra.specs.Ring.{Ops};
-ghost use Rattle.field.specs.Field.{p, field, fromWords, at, Reduced, Holds};
+ghost use mathlib.Core.Bool.{cond};
+ghost use Prim.Native.Nat.{_+_, _*_, _≤_};
+ghost use lib.ListN.{length};
+ghost use Rattle.algebra.specs.Ring.{Ops, minus};
+ghost use Rattle.algebra.specs.Words.{unreduced};
+ghost use Rattle.field.specs.Field.{p, field, fromWords, Reduced, Holds};
+ghost use Rattle.field.specs.Inner.{Ready};
 ghost use Rattle.table.specs.Refusals.{verdict};
 ghost use Rattle.fixing.specs.declared.Rule.the-variants.{Prefix, Suffix, Sum, Monomial};
-ghost use Rattle.fixing.specs.Fixing.{fixTests, sumTests, fixAnswer, fixOut, sumAnswer, sumOut};
-ghost use Rattle.fixing.specs.Inner.{Halves, Scaled, halved, combined};
+ghost use Rattle.fixing.specs.Fixing.{fixTests, fixAnswer, fixOut, sumAnswer, sumOut};
+ghost use Rattle.fixing.specs.Inner.{sizeTests, Sized, unlessUnreduced, TwoHalves, Halves, Pairs, Made, part, paired, halved, combined};
+
+// The most entries of a part.
+const PART: usize = 128;
 
 // Which two entries become one, and how.
 pub enum Rule {
@@ -60,17 +67,10 @@ pub fn sum_prefix_var_mut(entries: &mut [u32]) -> Remaining
     ensures { λ x. ⌜ x ≡ sumAnswer (now (entries .entry)) ⌝ }
     ensures { λ _. ⌜ now (entries .exit) ≡ sumOut (now (entries .entry)) ⌝ }
 {
-    let tested = test_sum(entries);
+    let tested = test_sizes(entries);
     match tested {
         Verdict::Refused(refusal) => Remaining::Refused(refusal),
-        Verdict::Accepted => {
-            let n = entries.len() / 4;
-            if n == 1 {
-                return Remaining::Entries(1);
-            }
-            halve(entries, n / 2, Rule::Sum, Element::zero());
-            Remaining::Entries(n / 2)
-        }
+        Verdict::Accepted => sum_sized(entries),
     }
 }
 
@@ -103,15 +103,95 @@ fn test_fix(entries: &[u32], r: Element) -> Verdict
         .refuse_if(n == 1, Refusal::Constant)
 }
 
-fn test_sum(entries: &[u32]) -> Verdict
-    ensures { λ x. ⌜ x ≡ verdict (sumTests (now (entries .entry))) ⌝ }
+// 1, 2, 3.
+fn test_sizes(entries: &[u32]) -> Verdict
+    ensures { λ x. ⌜ x ≡ verdict (sizeTests (now (entries .entry))) ⌝ }
 {
     let n = entries.len() / 4;
     Verdict::Accepted
         .refuse_if(table::splits(entries), Refusal::Split)
         .refuse_if(table::not_power(n), Refusal::NotPower)
         .refuse_if(table::too_many_variables(n), Refusal::TooMany)
-        .refuse_if(field::unreduced(entries), Refusal::Unreduced)
+}
+
+// 5, and the sums.
+fn sum_sized(entries: &mut [u32]) -> Remaining
+    requires { ⌜ Sized (now entries) ⌝ }
+    ensures { λ x. ⌜ x ≡ sumAnswer (now (entries .entry)) ⌝ }
+    ensures { λ _. ⌜ now (entries .exit) ≡ sumOut (now (entries .entry)) ⌝ }
+{
+    let n = entries.len() / 4;
+    if n == 1 {
+        return answer(field::unreduced(entries), 1);
+    }
+    answer(sum_halves(entries, n / 2), n / 2)
+}
+
+fn answer(unreduced: bool, n: usize) -> Remaining
+    ensures { λ x. ⌜ x ≡ unlessUnreduced unreduced n ⌝ }
+{
+    if unreduced {
+        Remaining::Refused(Refusal::Unreduced)
+    } else {
+        Remaining::Entries(n)
+    }
+}
+
+// 5 and the sums, part by part: a part's words are still at hand when they are summed. Where a later part is refused, the sums that
+// were made are taken back.
+fn sum_halves(entries: &mut [u32], h: usize) -> bool
+    requires { ⌜ TwoHalves h (now entries) ⌝ }
+    ensures { λ x. ⌜ x ≡ unreduced p (now (entries .entry)) ⌝ }
+    ensures { λ _. ⌜ now (entries .exit) ≡ cond (unreduced p (now (entries .entry))) (now (entries .entry)) (halved Sum h (now (entries .entry)) (field .zero)) ⌝ }
+{
+    let mut at = 0;
+    while at < h {
+        let n = table::smaller(PART, h - at);
+        if table::either(
+            is_part_unreduced(entries, at, n),
+            is_part_unreduced(entries, h + at, n),
+        ) {
+            take_back(entries, h, at);
+            return true;
+        }
+        add_part(entries, h, at, at + n);
+        at += n;
+    }
+    false
+}
+
+// 5, of n entries from entry `from` on.
+fn is_part_unreduced(entries: &[u32], from: usize, n: usize) -> bool
+    requires { ⌜ 4 * (from + n) ≤ length (now entries) ⌝ }
+    ensures { λ x. ⌜ x ≡ unreduced p (part from n (now (entries .entry))) ⌝ }
+{
+    let start = 4 * from;
+    let end = start + 4 * n;
+    field::unreduced(&entries[start..end])
+}
+
+// Adds to entries from..to those of the second half.
+fn add_part(entries: &mut [u32], h: usize, from: usize, to: usize)
+    requires { ⌜ Pairs h from to (now entries) ⌝ }
+    ensures { λ _. ⌜ Made (paired (field .add) h (now (entries .entry))) from to (now (entries .entry)) (now (entries .exit)) ⌝ }
+{
+    for i in from..to {
+        let a0 = table::get(entries, i);
+        let a1 = table::get(entries, h + i);
+        table::put(entries, i, a0.add(a1));
+    }
+}
+
+// Takes from entries 0..to those of the second half: (a0 + a1) - a1 is a0.
+fn take_back(entries: &mut [u32], h: usize, to: usize)
+    requires { ⌜ Pairs h 0 to (now entries) ⌝ }
+    ensures { λ _. ⌜ Made (paired (minus field) h (now (entries .entry))) 0 to (now (entries .entry)) (now (entries .exit)) ⌝ }
+{
+    for i in 0..to {
+        let sum = table::get(entries, i);
+        let a1 = table::get(entries, h + i);
+        table::put(entries, i, sum.sub(a1));
+    }
 }
 
 // The first h of 2h entries become what the rule makes of two: one loop a rule, chosen once.
@@ -122,7 +202,7 @@ fn halve(entries: &mut [u32], h: usize, rule: Rule, r: Element)
     match rule {
         Rule::Prefix => halve_prefix(entries, h, r),
         Rule::Suffix => halve_suffix(entries, h, r),
-        Rule::Sum => halve_sum(entries, h),
+        Rule::Sum => add_part(entries, h, 0, h),
         Rule::Monomial => halve_monomial(entries, h, r),
     }
 }
@@ -132,11 +212,11 @@ fn halve_prefix(entries: &mut [u32], h: usize, r: Element)
     requires { ⌜ Halves h (now entries) × Reduced r ⌝ }
     ensures { λ _. ⌜ now (entries .exit) ≡ halved Prefix h (now (entries .entry)) (fromWords r) ⌝ }
 {
-    let t = r.mul_base(Element::FACTOR);
+    let m = Multiplier::new(r);
     for i in 0..h {
         let a0 = table::get(entries, i);
         let a1 = table::get(entries, h + i);
-        table::put(entries, i, line(a0, a1, r, t));
+        table::put(entries, i, line(a0, a1, m));
     }
 }
 
@@ -144,22 +224,11 @@ fn halve_suffix(entries: &mut [u32], h: usize, r: Element)
     requires { ⌜ Halves h (now entries) × Reduced r ⌝ }
     ensures { λ _. ⌜ now (entries .exit) ≡ halved Suffix h (now (entries .entry)) (fromWords r) ⌝ }
 {
-    let t = r.mul_base(Element::FACTOR);
+    let m = Multiplier::new(r);
     for i in 0..h {
         let a0 = table::get(entries, 2 * i);
         let a1 = table::get(entries, 2 * i + 1);
-        table::put(entries, i, line(a0, a1, r, t));
-    }
-}
-
-fn halve_sum(entries: &mut [u32], h: usize)
-    requires { ⌜ Halves h (now entries) ⌝ }
-    ensures { λ _. ⌜ now (entries .exit) ≡ halved Sum h (now (entries .entry)) (field .zero) ⌝ }
-{
-    for i in 0..h {
-        let a0 = table::get(entries, i);
-        let a1 = table::get(entries, h + i);
-        table::put(entries, i, a0.add(a1));
+        table::put(entries, i, line(a0, a1, m));
     }
 }
 
@@ -167,53 +236,26 @@ fn halve_monomial(entries: &mut [u32], h: usize, r: Element)
     requires { ⌜ Halves h (now entries) × Reduced r ⌝ }
     ensures { λ _. ⌜ now (entries .exit) ≡ halved Monomial h (now (entries .entry)) (fromWords r) ⌝ }
 {
-    let t = r.mul_base(Element::FACTOR);
+    let m = Multiplier::new(r);
     for i in 0..h {
         let a0 = table::get(entries, i);
         let a1 = table::get(entries, h + i);
-        table::put(entries, i, monomial(a0, a1, r, t));
+        table::put(entries, i, monomial(a0, a1, m));
     }
 }
 
-// a0 + (a1 - a0) r; t is r times the factor.
-fn line(a0: Element, a1: Element, r: Element, t: Element) -> Element
-    requires { ⌜ (Reduced a0 × Reduced a1) × Scaled r t ⌝ }
-    ensures { λ x. ⌜ Holds x (combined Prefix (fromWords a0) (fromWords a1) (fromWords r)) ⌝ }
+// a0 + (a1 - a0) r.
+fn line(a0: Element, a1: Element, m: Multiplier) -> Element
+    requires { ⌜ (Reduced a0 × Reduced a1) × Ready m ⌝ }
+    ensures { λ x. ⌜ Holds x (combined Prefix (fromWords a0) (fromWords a1) (fromWords (m .r))) ⌝ }
 {
-    a0.add(times(a1.sub(a0), r, t))
+    a0.add(m.times(a1.sub(a0)))
 }
 
-// a0 + a1 r; t is r times the factor.
-fn monomial(a0: Element, a1: Element, r: Element, t: Element) -> Element
-    requires { ⌜ (Reduced a0 × Reduced a1) × Scaled r t ⌝ }
-    ensures { λ x. ⌜ Holds x (combined Monomial (fromWords a0) (fromWords a1) (fromWords r)) ⌝ }
+// a0 + a1 r.
+fn monomial(a0: Element, a1: Element, m: Multiplier) -> Element
+    requires { ⌜ (Reduced a0 × Reduced a1) × Ready m ⌝ }
+    ensures { λ x. ⌜ Holds x (combined Monomial (fromWords a0) (fromWords a1) (fromWords (m .r))) ⌝ }
 {
-    a0.add(times(a1, r, t))
-}
-
-// x r by four divisions and not seven: what comes back from X^4 and above is multiplied by t, r times the factor.
-fn times(x: Element, r: Element, t: Element) -> Element
-    requires { ⌜ Reduced x × Scaled r t ⌝ }
-    ensures { λ y. ⌜ Holds y (field .mul (fromWords x) (fromWords r)) ⌝ }
-{
-    Element {
-        c: [
-            row(x, r.c[0], t.c[3], t.c[2], t.c[1]),
-            row(x, r.c[1], r.c[0], t.c[3], t.c[2]),
-            row(x, r.c[2], r.c[1], r.c[0], t.c[3]),
-            row(x, r.c[3], r.c[2], r.c[1], r.c[0]),
-        ],
-    }
-}
-
-fn row(x: Element, a: u32, b: u32, c: u32, d: u32) -> u32
-    requires { ⌜ Reduced x × (((a < p) × (b < p)) × ((c < p) × (d < p))) ⌝ }
-    ensures { λ y. ⌜ y ≡ (at x 0 * a + at x 1 * b + at x 2 * c + at x 3 * d) % p ⌝ }
-{
-    word::residue(
-        word::wide(x.c[0], a)
-            + word::wide(x.c[1], b)
-            + word::wide(x.c[2], c)
-            + word::wide(x.c[3], d),
-    )
+    a0.add(m.times(a1))
 }

@@ -5,8 +5,8 @@ use Prim.Native.Nat.{ℕ, _-_, _*_, _^_, _≤_}
 use mathlib.Core.List.{List}
 use lib.ListN.{length}
 use Rattle.frames.specs.declared.Reader.{Reader}
-use Rattle.frames.specs.Reader.{mostPlaces}
-use Rattle.frames.specs.Inner.{Ready, mostLine}
+use Rattle.frames.specs.Reader.{mostPlaces, Ready}
+use Rattle.frames.specs.Inner.{mostLine}
 use Rattle.foldframes.specs.declared.Progress.{Progress}
 
 pub record Going (at : Progress) (line out : List ℕ) : Type 0 where

@@ -22,8 +22,8 @@ use Rattle.frame.specs.Frame.{kindOf, indexOf, coordinateOf, wordsOf}
 use Rattle.frames.specs.declared.Phase.{Phase}
 use Rattle.frames.specs.declared.Phase.the-variants.{Done}
 use Rattle.frames.specs.declared.Reader.{Reader}
-use Rattle.frames.specs.Reader.{mostPlaces, lineAnswer, started, opened, noted, counted, taken, used, outBy}
-use Rattle.frames.specs.Inner.{Ready, InLimits, Takes, Adds}
+use Rattle.frames.specs.Reader.{mostPlaces, lineAnswer, started, opened, noted, counted, taken, used, outBy, Ready}
+use Rattle.frames.specs.Inner.{InLimits, Takes, Adds}
 use Rattle.frames.proofs.Accepted.{Opens, opens, notes, Feeds, feeds}
 
 -- before the first line, with any out of reduced words

@@ -9,8 +9,8 @@ use Rattle.frame.specs.declared.Kind.{Kind}
 use Rattle.frame.specs.Frame.{kindOf}
 use Rattle.frames.specs.declared.Reader.{Reader}
 use Rattle.frames.specs.declared.Turn.{Turn}
-use Rattle.frames.specs.Reader.{lineAnswer, taken, outBy, turned, outAfter}
-use Rattle.frames.specs.Inner.{Ready, Alike}
+use Rattle.frames.specs.Reader.{lineAnswer, taken, outBy, turned, outAfter, Ready}
+use Rattle.frames.specs.Inner.{Alike}
 
 -- a line of these bytes gives t and leaves w
 abbrev pub Gives : Reader → List ℕ → List ℕ → Turn → List ℕ → Type 0

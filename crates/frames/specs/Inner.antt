@@ -1,5 +1,4 @@
--- What the functions take and give beside their outcomes. Of the exported ones, `step` cites `Ready`, and `text::hold` `mostLine` and
--- `Held`. Assumes nothing.
+-- What the functions take and give beside their outcomes. Of the exported ones, `text::hold` cites `mostLine` and `Held`. Assumes nothing.
 use mathlib.Core.Path.{_≡_}
 use mathlib.Core.Bool.{false}
 use Prim.Native.Nat.{ℕ, _+_, _-_, _*_, _^_, _≤_}
@@ -15,18 +14,7 @@ use Rattle.frame.specs.declared.Kind.{Kind}
 use Rattle.frame.specs.Frame.{kindOf}
 use Rattle.frames.specs.declared.Phase.{Phase}
 use Rattle.frames.specs.declared.Reader.{Reader}
-use Rattle.frames.specs.Reader.{mostPlaces, lineAnswer, turned, outAfter}
-
--- what every line finds: the state's numbers in their limits, its words and out's below p
-pub record Ready (r : Reader) (out : List ℕ) : Type 0 where
-  pub small : r .session .n ≤ most
-  pub fits : r .session .k ≤ r .session .n
-  pub few : r .session .n - r .session .k ≤ mostPlaces
-  pub within : r .session .taken ≤ 2 ^ r .session .n
-  pub scale-is : Reduced (r .session .scale)
-  pub below : unreduced p (r .session .coordinates) ≡ false
-  pub room : length out ≡ 4 * 2 ^ mostPlaces
-  pub out-below : unreduced p out ≡ false
+use Rattle.frames.specs.Reader.{Ready, lineAnswer, turned, outAfter}
 
 -- the state alone
 pub record InLimits (r : Reader) : Type 0 where

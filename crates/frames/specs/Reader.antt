@@ -1,5 +1,6 @@
 -- The program's state and one step of it, a line (document 01, "Frames" and "Program, line by line"). Assumes nothing.
-use Prim.Native.Nat.{ℕ, zero, suc, _+_, _-_, _*_, _^_}
+use mathlib.Core.Path.{_≡_}
+use Prim.Native.Nat.{ℕ, zero, suc, _+_, _-_, _*_, _^_, _≤_}
 use mathlib.Core.Bool.{Bool, true, false, cond, not, _&&_, _||_}
 use mathlib.Core.List.{List, [], _∷_, _++_}
 use lib.Dec.{eqb, ltb}
@@ -9,7 +10,7 @@ use Rattle.multilinear.specs.declared.Side.{Side}
 use Rattle.multilinear.specs.declared.Side.the-variants.{Prefix}
 use Rattle.multilinear.specs.declared.Weight.{Weight}
 use Rattle.multilinear.specs.declared.Weight.the-variants.{Plain}
-use Rattle.field.specs.Field.{p}
+use Rattle.field.specs.Field.{p, Reduced}
 use Rattle.field.specs.declared.Element.{Element}
 use Rattle.table.specs.Table.{putAt}
 use Rattle.table.specs.Refusals.{Test, _gives_, verdict, leaves, most}
@@ -216,3 +217,14 @@ turned r bs = record { answer = lineAnswer r bs; reader = leaves (lineAnswer r b
 
 unfoldable pub outAfter : Reader → List ℕ → List ℕ → List ℕ
 outAfter r bs out = leaves (lineAnswer r bs) (outBy (kindOf bs) r bs out) out
+
+-- what every line finds: the state's numbers in their limits, its words and out's below p
+pub record Ready (r : Reader) (out : List ℕ) : Type 0 where
+  pub small : r .session .n ≤ most
+  pub fits : r .session .k ≤ r .session .n
+  pub few : r .session .n - r .session .k ≤ mostPlaces
+  pub within : r .session .taken ≤ 2 ^ r .session .n
+  pub scale-is : Reduced (r .session .scale)
+  pub below : unreduced p (r .session .coordinates) ≡ false
+  pub room : length out ≡ 4 * 2 ^ mostPlaces
+  pub out-below : unreduced p out ≡ false

@@ -19,8 +19,8 @@ ghost use Rattle.session.specs.Session.{fed};
 ghost use Rattle.frame.specs.declared.Kind.the-variants.{Open, Coordinate, Words, Close};
 ghost use Rattle.frame.specs.Hex.{bytesOf};
 ghost use Rattle.frame.specs.Frame.{byteAt, kindOf, wordsOf};
-ghost use Rattle.frames.specs.Reader.{inPlace, isDone, isPoints, onceMore, withCoordinates, sessionBy, onceEach, misplaced, openTests, coordinateTests, wordsTests, kindTests, lineAnswer, started, opened, noted, counted, taken, outBy, turned, outAfter};
-ghost use Rattle.frames.specs.Inner.{Ready, InLimits, Takes, Alike, Adds, markedAs};
+ghost use Rattle.frames.specs.Reader.{inPlace, isDone, isPoints, onceMore, withCoordinates, sessionBy, onceEach, misplaced, openTests, coordinateTests, wordsTests, kindTests, lineAnswer, started, opened, noted, counted, taken, outBy, turned, outAfter, Ready};
+ghost use Rattle.frames.specs.Inner.{InLimits, Takes, Alike, Adds, markedAs};
 
 pub mod text;
 

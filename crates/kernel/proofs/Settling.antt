@@ -1,7 +1,7 @@
 -- The residues of sums of products with base words are the words of the field's sums. Assumes nothing.
-use mathlib.Core.Path.{_≡_, refl, sym, ap, _∙_}
+use mathlib.Core.Path.{_≡_, refl, ap, _∙_}
 use Prim.Native.Nat.{ℕ, zero, suc, _+_, _*_, _%_}
-use native.Mathlib.Nat.{add-mod-mod, mul-comm, add-zero}
+use native.Mathlib.Nat.{mul-comm, add-zero}
 use mathlib.Core.List.{List, [], _∷_}
 use lib.ListN.{length, getD}
 use Rattle.algebra.specs.Ring.{Ops}
@@ -9,7 +9,7 @@ use Rattle.algebra.specs.Residue.{reduce, residues}
 use Rattle.algebra.specs.Quartic.{quartic}
 use Rattle.algebra.specs.Sum.{sumTo}
 use Rattle.algebra.specs.Words.{wordsOf, numbers}
-use Rattle.algebra.proofs.Residues.{mul-mod-mod}
+use Rattle.algebra.proofs.Residues.{add-mul-mod}
 use Rattle.algebra.proofs.Numbers.{numbers-add, numbers-scale}
 use Rattle.field.specs.Field.{p, p-pos, factor, field, base, toWords, fromWords, at, Ext, Holds}
 use Rattle.field.specs.declared.Element.{Element}
@@ -17,15 +17,13 @@ use Rattle.field.proofs.Laws.{holds}
 use Rattle.table.specs.Table.{getAt, elementAt}
 use Rattle.kernel.specs.declared.halves.Halves.{Halves}
 use Rattle.kernel.specs.declared.sums.Sums.{Sums}
-use Rattle.kernel.specs.Inner.{unit, value, coordinate, Summed, settled}
+use Rattle.field.specs.Inner.{unit}
+use Rattle.kernel.specs.Inner.{value, coordinate, Summed, settled}
 
 -- the residue of halves
 pub settle-law : (h : Halves) → (h .lo + h .hi % p * unit) % p ≡ value h % p
 unfolding value
-settle-law h =
-    sym (add-mod-mod (h .lo) (h .hi % p * unit) p)
-    ∙ ap (λ (n : ℕ). (h .lo + n) % p) (ap (λ (n : ℕ). n % p) (mul-comm (h .hi % p) unit) ∙ mul-mod-mod unit (h .hi) p)
-    ∙ add-mod-mod (h .lo) (unit * h .hi) p
+settle-law h = ap (λ (n : ℕ). (h .lo + n) % p) (mul-comm (h .hi % p) unit) ∙ add-mul-mod (h .lo) unit (h .hi) p
 
 -- a product with a base word gained, coordinate by coordinate
 pub numbers-gain : (a0 a1 a2 a3 b0 b1 b2 b3 w : ℕ) → numbers p p-pos (a0 + b0 * w) (a1 + b1 * w) (a2 + b2 * w) (a3 + b3 * w)

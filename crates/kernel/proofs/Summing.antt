@@ -16,29 +16,29 @@ use Rattle.kernel.specs.Inner.{value, Within, Grown, coordinate, Gains, 
 pub both-below : {weights words : List ℕ} → Dots weights words → (j i : ℕ) → (getD weights j 0 < p) × (getD words i 0 < p)
 both-below {weights} {words} h j i = (below p weights (h .weights-below) p-pos j, below p words (h .words-below) p-pos i)
 
-kept-none : (weights words : List ℕ) (k : ℕ) {h : Halves} → (value h ≡ 0) × Within 0 h → Kept weights words k 0 h
-unfolding coordinate
-kept-none weights words k e = record { is = e .0; within = e .1 }
+-- halves that hold nothing yet
+pub kept-none : (sums : ℕ → ℕ) → sums 0 ≡ 0 → {h : Halves} → (value h ≡ 0) × Within 0 h → Kept sums 0 h
+kept-none sums z e = record { is = e .0 ∙ sym z; within = e .1 }
 
 pub start : (weights words : List ℕ) {s0 s1 s2 s3 : Halves}
     → (value s0 ≡ 0) × Within 0 s0 → (value s1 ≡ 0) × Within 0 s1 → (value s2 ≡ 0) × Within 0 s2 → (value s3 ≡ 0) × Within 0 s3
     → Summed weights words 0 (record { s0 = s0; s1 = s1; s2 = s2; s3 = s3 })
+unfolding coordinate
 start weights words e0 e1 e2 e3 =
     record {
       there = omega arith;
-      at0 = kept-none weights words 0 e0;
-      at1 = kept-none weights words 1 e1;
-      at2 = kept-none weights words 2 e2;
-      at3 = kept-none weights words 3 e3;
+      at0 = kept-none (coordinate weights words 0) refl e0;
+      at1 = kept-none (coordinate weights words 1) refl e1;
+      at2 = kept-none (coordinate weights words 2) refl e2;
+      at3 = kept-none (coordinate weights words 3) refl e3;
     }
 
-module _ (weights words : List ℕ) (k i : ℕ) {h : Halves} (u : Kept weights words k i h) where
-  kept-room : i ≤ mostGains → Within mostGains h
+module _ (sums : ℕ → ℕ) (i : ℕ) {h : Halves} (u : Kept sums i h) where
+  pub kept-room : i ≤ mostGains → Within mostGains h
   unfolding Within
   kept-room l = omega (arith, u .within)
 
-  kept-more : (n x : ℕ) {r : Halves} → 0 < n → Gains weights words k i n x → Grown h x r
-      → Kept weights words k (i + n) r
+  pub kept-more : (n x : ℕ) {r : Halves} → 0 < n → sums (i + n) ≡ sums i + x → Grown h x r → Kept sums (i + n) r
   unfolding Within
   kept-more n x z e g =
       record {
@@ -52,10 +52,10 @@ module _ (weights words : List ℕ) (i : ℕ) {s : Sums} (d : Dots weights words
   room =
       let l : i ≤ mostGains = omega (arith, d .few, u .there) in
       record {
-        in0 = kept-room weights words 0 i (u .at0) l;
-        in1 = kept-room weights words 1 i (u .at1) l;
-        in2 = kept-room weights words 2 i (u .at2) l;
-        in3 = kept-room weights words 3 i (u .at3) l;
+        in0 = kept-room (coordinate weights words 0) i (u .at0) l;
+        in1 = kept-room (coordinate weights words 1) i (u .at1) l;
+        in2 = kept-room (coordinate weights words 2) i (u .at2) l;
+        in3 = kept-room (coordinate weights words 3) i (u .at3) l;
       }
 
   -- all four coordinates gain what words i to i + n - 1 have
@@ -69,10 +69,10 @@ module _ (weights words : List ℕ) (i : ℕ) {s : Sums} (d : Dots weights words
   turn n z l e0 g0 e1 g1 e2 g2 e3 g3 =
       record {
         there = l;
-        at0 = kept-more weights words 0 i (u .at0) n _ z e0 g0;
-        at1 = kept-more weights words 1 i (u .at1) n _ z e1 g1;
-        at2 = kept-more weights words 2 i (u .at2) n _ z e2 g2;
-        at3 = kept-more weights words 3 i (u .at3) n _ z e3 g3;
+        at0 = kept-more (coordinate weights words 0) i (u .at0) n _ z e0 g0;
+        at1 = kept-more (coordinate weights words 1) i (u .at1) n _ z e1 g1;
+        at2 = kept-more (coordinate weights words 2) i (u .at2) n _ z e2 g2;
+        at3 = kept-more (coordinate weights words 3) i (u .at3) n _ z e3 g3;
       }
 
 -- the next products of coordinate k

@@ -3,17 +3,15 @@ use mathlib.Core.Path.{_≡_}
 use Prim.Native.Nat.{ℕ, zero, suc, _+_, _*_, _%_, _≤_, _<_}
 use mathlib.Core.List.{List, [], _∷_}
 use lib.ListN.{length, getD}
-use Rattle.field.specs.Field.{p, at}
+use Rattle.field.specs.Field.{p, factor, at}
+use Rattle.field.specs.Inner.{unit, coefficient}
 use Rattle.field.specs.declared.Element.{Element}
 use Rattle.kernel.specs.declared.halves.Halves.{Halves}
+use Rattle.kernel.specs.declared.powers.Powers.{Powers}
 use Rattle.kernel.specs.declared.steps.Four.{Four}
 use Rattle.kernel.specs.declared.sums.Sums.{Sums}
 use Rattle.kernel.specs.Kernel.{Dots}
 use Rattle.kernel.specs.Kernel.{mostWords}
-
--- the numbers that fit 32 bits
-abbrev pub unit : ℕ
-unit = 4294967296
 
 -- the most numbers that halves gain: one for each word of `Dots`
 abbrev pub mostGains : ℕ
@@ -46,18 +44,18 @@ pub record Part (weights words : List ℕ) (i n : ℕ) : Type 0 where
   pub dots : Dots weights words
   pub there : i + n ≤ length words
 
--- h is coordinate k of the sum of the first n products
-pub record Kept (weights words : List ℕ) (k n : ℕ) (h : Halves) : Type 0 where
-  pub is : value h ≡ coordinate weights words k n
+-- h is sums n, a sum of at most n numbers
+pub record Kept (sums : ℕ → ℕ) (n : ℕ) (h : Halves) : Type 0 where
+  pub is : value h ≡ sums n
   pub within : Within n h
 
 -- s is the sum of the first n products
 pub record Summed (weights words : List ℕ) (n : ℕ) (s : Sums) : Type 0 where
   pub there : n ≤ length words
-  pub at0 : Kept weights words 0 n (s .s0)
-  pub at1 : Kept weights words 1 n (s .s1)
-  pub at2 : Kept weights words 2 n (s .s2)
-  pub at3 : Kept weights words 3 n (s .s3)
+  pub at0 : Kept (coordinate weights words 0) n (s .s0)
+  pub at1 : Kept (coordinate weights words 1) n (s .s1)
+  pub at2 : Kept (coordinate weights words 2) n (s .s2)
+  pub at3 : Kept (coordinate weights words 3) n (s .s3)
 
 -- no half is too great to be settled
 pub record Room (s : Sums) : Type 0 where
@@ -84,3 +82,36 @@ column w0 w1 w2 w3 k = record { x0 = at w0 k; x1 = at w1 k; x2 = at w2 k; x3 = a
 -- n and the four products of w and x
 abbrev pub plusProducts : ℕ → Four → Four → ℕ
 plusProducts n w x = n + w .x0 * x .x0 + w .x1 * x .x1 + w .x2 * x .x2 + w .x3 * x .x3
+
+-- P k holds of the sum at X^k, for each k
+pub record Each (P : ℕ → Halves → Type 0) (s : Powers) : Type 0 where
+  pub at0 : P 0 (s .s0)
+  pub at1 : P 1 (s .s1)
+  pub at2 : P 2 (s .s2)
+  pub at3 : P 3 (s .s3)
+  pub at4 : P 4 (s .s4)
+  pub at5 : P 5 (s .s5)
+  pub at6 : P 6 (s .s6)
+
+-- no half is too great to be settled
+abbrev pub RoomEach : Powers → Type 0
+RoomEach s = Each (λ k h. Within mostGains h) s
+
+-- r is s with x y gained
+pub record Raised (s : Powers) (x y : Element) (r : Powers) : Type 0 where
+  pub at0 : Grown (s .s0) (coefficient x y 0) (r .s0)
+  pub at1 : Grown (s .s1) (coefficient x y 1) (r .s1)
+  pub at2 : Grown (s .s2) (coefficient x y 2) (r .s2)
+  pub at3 : Grown (s .s3) (coefficient x y 3) (r .s3)
+  pub at4 : Grown (s .s4) (coefficient x y 4) (r .s4)
+  pub at5 : Grown (s .s5) (coefficient x y 5) (r .s5)
+  pub at6 : Grown (s .s6) (coefficient x y 6) (r .s6)
+
+-- the residue of what the halves stand for, the high ones times the factor
+abbrev pub foldedHalves : Halves → Halves → ℕ
+foldedHalves low high = (value low + factor * value high) % p
+
+-- the element of the sums
+unfoldable pub settledPowers : Powers → Element
+settledPowers s =
+    record { c = foldedHalves (s .s0) (s .s4) ∷ foldedHalves (s .s1) (s .s5) ∷ foldedHalves (s .s2) (s .s6) ∷ value (s .s3) % p ∷ [] }

@@ -21,8 +21,9 @@ pub record Dots (weights words : List ℕ) : Type 0 where
   pub weights-below : unreduced p weights ≡ false
   pub words-below : unreduced p words ≡ false
 
--- n weights and n entries of a table of elements, all reduced
+-- n weights and n entries of a table of elements, at most so many, all reduced
 pub record Pairs (n : ℕ) (weights entries : List ℕ) : Type 0 where
+  pub few : n ≤ mostWords
   pub weights-there : 4 * n ≤ length weights
   pub entries-there : 4 * n ≤ length entries
   pub weights-below : unreduced p weights ≡ false

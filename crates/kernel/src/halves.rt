@@ -12,9 +12,6 @@ pub struct Halves {
 }
 
 impl Halves {
-    // 2^32.
-    pub const UNIT: u64 = 4294967296;
-
     pub fn none() -> Self
         ensures { λ r. ⌜ (value r ≡ 0) × Within 0 r ⌝ }
     {
@@ -26,8 +23,8 @@ impl Halves {
         ensures { λ r. ⌜ Grown self x r ⌝ }
     {
         Halves {
-            lo: self.lo + x % Halves::UNIT,
-            hi: self.hi + x / Halves::UNIT,
+            lo: self.lo + x % word::UNIT,
+            hi: self.hi + x / word::UNIT,
         }
     }
 
@@ -36,6 +33,6 @@ impl Halves {
         requires { ⌜ Within mostGains self ⌝ }
         ensures { λ r. ⌜ r ≡ value self % p ⌝ }
     {
-        word::residue(self.lo + self.hi % (Element::MODULUS as u64) * Halves::UNIT)
+        word::residue(self.lo + self.hi % (Element::MODULUS as u64) * word::UNIT)
     }
 }

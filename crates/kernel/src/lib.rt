@@ -1,10 +1,12 @@
 // The inner loops of values and folds, with few divisions.
 mod halves;
+mod powers;
 mod steps;
 mod sums;
 
 use field::Element;
 use field::word;
+use powers::Powers;
 use steps::Four;
 ghost use Prim.Native.Nat.{_≤_};
 ghost use Rattle.algebra.specs.Ring.{Ops};
@@ -52,16 +54,16 @@ pub fn dot_few(weights: &[u32], words: &[u32]) -> Element
     }
 }
 
-// The sum of weights[y] entries[y] over n entries of a table of elements.
+// The sum of weights[y] entries[y] over n entries of a table of elements, divided at the end alone.
 pub fn dot_ext(weights: &[u32], entries: &[u32], n: usize) -> Element
     requires { ⌜ Pairs n (now weights) (now entries) ⌝ }
     ensures { λ r. ⌜ Holds r (sumTo field n (λ y. field .mul (elementAt (now (weights .entry)) y) (elementAt (now (entries .entry)) y))) ⌝ }
 {
-    let mut sum = Element::zero();
+    let mut sum = Powers::none();
     for y in 0..n {
-        sum = sum.add(table::read(weights, y).mul(table::read(entries, y)));
+        sum = sum.gain(table::read(weights, y), table::read(entries, y));
     }
-    sum
+    sum.settle()
 }
 
 // out[from + y] gains weight words[y], for each word.

@@ -17,14 +17,13 @@ use Rattle.multilinear.proofs.Weighed.{weighed-none}
 use Rattle.field.specs.Field.{Ext, field, base, fromWords, Holds}
 use Rattle.field.specs.declared.Element.{Element}
 use Rattle.field.proofs.Laws.{field-ring, base-zero, read-as}
-use Rattle.table.specs.Table.{elementAt, elements, putAt, placed}
+use Rattle.table.specs.Table.{elementAt, elements, entries, putAt, placed}
 use Rattle.table.specs.Inner.{Gained}
 use Rattle.table.proofs.Laws.{elements-length}
 use Rattle.table.proofs.Gaining.{none, turn, widened}
 use Rattle.table.proofs.Placed.{placed-before, placed-after}
-use Rattle.weigh.specs.Weigh.{Block}
 use Rattle.weigh.proofs.Weighing.{weighed-words}
-use Rattle.piece.specs.Inner.{Adds, Places, placeSum}
+use Rattle.piece.specs.Inner.{Adds, Blocks, Places, placeSum}
 
 base-cond : (b : Bool) (x : ℕ) → base (cond b x 0) ≡ cond b (base x) (field .zero)
 base-cond true x = refl
@@ -112,15 +111,27 @@ module _ {skip k inner taken : ℕ} {last scale : Element} {point piece out : Li
   abbrev weighed : ℕ → Ext
   weighed = weighedAt field Suffix skip (fromWords last) inner zs (fromWords scale) word
 
+  entries-are : entries out ≡ inner
+  entries-are = omega (arith, a .room)
+
+  -- with the places counted by what they are in
+  pub counted : Adds skip last k (entries out) scale point taken piece out
+  counted = rw entries-are a
+
+  pub as-counted : {w : List ℕ}
+      → Gained 0 (entries out) (weighedAt field Suffix skip (fromWords last) (entries out) zs (fromWords scale) word) out w
+      → Gained 0 inner weighed out w
+  as-counted d = rw entries-are at d
+
   rows-are : 2 ^ length zs ≡ 2 ^ k
   rows-are = ap (λ n. 2 ^ n) (elements-length point 0 k)
 
-  module _ {low : ℕ} {block : List ℕ} (there : low ≤ k) (b : Block (k - low) low point (fromWords scale) block) where
+  module _ {low : ℕ} {block : List ℕ} (b : Blocks k low scale point block) where
     place-is : (i : ℕ) → placeSum i skip (fromWords last) k low point block taken piece ≡ weighed i
     unfolding placeSum weighedAt
     place-is i =
         ap₂ (λ x n. field .add x (field .mul (fromWords last) (word n)))
-        (weighed-words there b _ ∙ moved-value field-ring Suffix skip inner zs (fromWords scale) word i _ (λ y h. same y))
+        (weighed-words (b .low-fits) (b .block-is) _ ∙ moved-value field-ring Suffix skip inner zs (fromWords scale) word i _ (λ y h. same y))
         (ap (λ n. i * n + (n - 1)) (sym rows-are))
       where
         same : (y : ℕ) → base (cond (ltb (y + skip) (2 ^ k)) (placed taken piece (i * 2 ^ k + (y + skip))) 0)
@@ -164,9 +175,9 @@ module _ {skip k inner taken : ℕ} {last scale : Element} {point piece out : Li
         let m : 1 * inner ≤ 2 ^ k * inner = mul-le-mul-right inner (pow-pos k) in
         omega (arith, place-there h, a .small)
 
-    pub places : {i low : ℕ} {block : List ℕ} → low ≤ k → low ≤ 8 → Block (k - low) low point (fromWords scale) block → from ≤ i → i < to
+    pub places : {i low : ℕ} {block : List ℕ} → Blocks k low scale point block → from ≤ i → i < to
         → Places i skip last k low point block taken piece
-    places {i} there small b h l =
+    places {i} b h l =
         let e : i * rows ≡ i * 2 ^ k = ap (λ n. i * n) r in
         let m : suc i * rows ≤ inner * rows = mul-le-mul-right rows (place-there l) in
         let at = from-first taken (length piece) some h in
@@ -174,22 +185,22 @@ module _ {skip k inner taken : ℕ} {last scale : Element} {point piece out : Li
           one = a .one;
           last-is = a .last-is;
           point-is = a .point-is;
-          low-fits = there;
-          small = small;
-          size = b .size;
-          block-below = b .below;
+          low-fits = b .low-fits;
+          small = b .small;
+          block-room = b .block-is .room;
+          block-below = b .block-is .below;
           reached = omega (arith, at, r);
           few = omega (arith, r, all-words, a .small);
           within = omega (arith, a .within, a .small);
           piece-below = a .piece-below;
         }
 
-    pub finish : {low i : ℕ} {block w : List ℕ} → low ≤ k → Block (k - low) low point (fromWords scale) block → to ≤ i
+    pub finish : {low i : ℕ} {block w : List ℕ} → Blocks k low scale point block → to ≤ i
         → Done skip (fromWords last) k low point block taken piece out from to w i → Gained 0 inner weighed out w
-    finish {low} {i} there b m d =
+    finish {low} {i} b m d =
         let q : from + (i - from) ≡ i = omega (arith, d .begun) in
         let f : i ≤ inner = omega (arith, d .within, ends-within taken (length piece) some whole) in
-        widened weighed (d .gained) (a .out-below) (rw q f) (λ y u. place-is there b (from + y))
+        widened weighed (d .gained) (a .out-below) (rw q f) (λ y u. place-is b (from + y))
         (λ y u. weighed-none field-ring Suffix skip (fromWords last) inner zs (fromWords scale) word y
         (λ z v. ap base (placed-before taken piece _ (early y z u v)) ∙ base-zero))
         (λ y u. weighed-none field-ring Suffix skip (fromWords last) inner zs (fromWords scale) word y

@@ -193,7 +193,7 @@ module _ {i skip k low taken : â„•} {last : Element} {point block piece : List â
           fits = rw f (within (decLt (taken + length piece) stop));
           words-below = part-below a (b - a) piece (s .piece-below);
           small = s .small;
-          size = s .size;
+          room = s .block-room;
           below = s .block-below;
         }
 

@@ -10,12 +10,12 @@ use Rattle.algebra.specs.Words.{unreduced}
 use Rattle.multilinear.specs.declared.Side.{Side}
 use Rattle.multilinear.specs.declared.Side.the-variants.{Prefix, Suffix}
 use Rattle.multilinear.specs.Values.{valueAt}
-use Rattle.field.specs.Field.{p, Ext, field, base, Reduced}
+use Rattle.field.specs.Field.{p, Ext, field, base, fromWords, Reduced}
 use Rattle.field.specs.declared.Element.{Element}
 use Rattle.table.specs.Table.{elements, placed}
 use Rattle.table.specs.Refusals.{most}
 use Rattle.point.specs.Inner.{Coordinates}
-use Rattle.weigh.specs.Weigh.{blockSum}
+use Rattle.weigh.specs.Weigh.{Block, blockSum}
 
 -- a piece of a table of n variables, k coordinates and a scale, and an element of out for each place, all reduced
 pub record Pieces (n k : ℕ) (scale : Element) (point : List ℕ) (taken : ℕ) (piece out : List ℕ) : Type 0 where
@@ -63,6 +63,12 @@ pub record Scatters (i left from inner : ℕ) (point : List ℕ) (weight : Eleme
   pub room : length out ≡ 4 * inner
   pub out-below : unreduced p out ≡ false
 
+-- the table of a block of the last `low` coordinates
+pub record Blocks (k low : ℕ) (scale : Element) (point block : List ℕ) : Type 0 where
+  pub low-fits : low ≤ k
+  pub small : low ≤ 8
+  pub block-is : Block (k - low) low point (fromWords scale) block
+
 -- place i has words of the piece or comes after them, and a block's table is there
 pub record Places (i skip : ℕ) (last : Element) (k low : ℕ) (point block : List ℕ) (taken : ℕ) (piece : List ℕ) : Type 0 where
   pub one : skip ≤ 1
@@ -70,7 +76,7 @@ pub record Places (i skip : ℕ) (last : Element) (k low : ℕ) (point block : L
   pub point-is : Coordinates k point
   pub low-fits : low ≤ k
   pub small : low ≤ 8
-  pub size : length block ≡ 1024
+  pub block-room : 4 * 2 ^ low ≤ length block
   pub block-below : unreduced p block ≡ false
   pub reached : taken < i * 2 ^ k + 2 ^ k
   pub few : i * 2 ^ k + 2 ^ k ≤ 2 ^ most

@@ -15,10 +15,13 @@ ghost use Rattle.multilinear.specs.declared.Weight.the-variants.{Plain};
 ghost use Rattle.multilinear.specs.Folds.{foldAt};
 ghost use Rattle.multilinear.specs.Inner.{skipOf, lastOf, weighedAt};
 ghost use Rattle.field.specs.Field.{field, base, fromWords, Reduced, Holds};
-ghost use Rattle.table.specs.Table.{tableWords, elementAt, elements, placed};
+ghost use Rattle.table.specs.Table.{tableWords, elementAt, elements, entries, placed};
 ghost use Rattle.table.specs.Inner.{Gained};
 ghost use Rattle.point.specs.Inner.{Coordinates};
-ghost use Rattle.piece.specs.Inner.{Pieces, Counts, hasLast, Adds, Scatters, Places, placeSum};
+ghost use Rattle.piece.specs.Inner.{Pieces, Counts, hasLast, Adds, Scatters, Blocks, Places, placeSum};
+
+// A piece of fewer words is short: a small block serves.
+const SHORT: usize = 64;
 
 // out gains scale weight word at each word's place.
 pub fn add(
@@ -219,12 +222,37 @@ fn by_places(
     requires { ⌜ Adds skip last k inner scale (now point) taken (now piece) (now out) ⌝ }
     ensures { λ _. ⌜ Gained 0 inner (weighedAt field Suffix skip (fromWords last) inner (elements (now (point .entry)) 0 k) (fromWords scale) (λ t. base (placed taken (now (piece .entry)) t))) (now (out .entry)) (now (out .exit)) ⌝ }
 {
+    if piece.len() < SHORT {
+        let low = table::smaller(k, weigh::SMALL_BLOCK);
+        let block = weigh::small_block_of(point, k - low, low, scale);
+        add_places(skip, last, k, low, scale, point, &block, taken, piece, out);
+    } else {
+        let low = block_variables(k, piece.len());
+        let block = weigh::block_of(point, k - low, low, scale);
+        add_places(skip, last, k, low, scale, point, &block, taken, piece, out);
+    }
+}
+
+// The same, with the table of a block of `low` variables.
+fn add_places(
+    skip: usize,
+    last: Element,
+    k: usize,
+    low: usize,
+    scale: Element,
+    point: &[u32],
+    block: &[u32],
+    taken: usize,
+    piece: &[u32],
+    out: &mut [u32],
+)
+    requires { ⌜ Adds skip last k (entries (now out)) scale (now point) taken (now piece) (now out) × Blocks k low scale (now point) (now block) ⌝ }
+    ensures { λ _. ⌜ Gained 0 (entries (now (out .entry))) (weighedAt field Suffix skip (fromWords last) (entries (now (out .entry))) (elements (now (point .entry)) 0 k) (fromWords scale) (λ t. base (placed taken (now (piece .entry)) t))) (now (out .entry)) (now (out .exit)) ⌝ }
+{
     let rows = table::rows(k);
-    let low = block_variables(k, piece.len());
-    let block = weigh::block_of(point, k - low, low, scale);
     let end = (taken + piece.len() + rows - 1) / rows;
     for i in taken / rows..end {
-        let sum = place_sum(i, skip, last, k, low, point, &block, taken, piece);
+        let sum = place_sum(i, skip, last, k, low, point, block, taken, piece);
         table::put(out, i, table::read(out, i).add(sum));
     }
 }
@@ -233,9 +261,6 @@ fn by_places(
 fn block_variables(k: usize, len: usize) -> usize
     ensures { λ r. ⌜ (r ≤ k) × (r ≤ 8) ⌝ }
 {
-    if len < 64 {
-        return table::smaller(k, 2);
-    }
     if len < 1024 {
         return table::smaller(k, 4);
     }

@@ -3,18 +3,29 @@ use mathlib.Core.Path.{_≡_}
 use Prim.Native.Nat.{ℕ, suc, _-_, _≤_, _<_}
 use native.Mathlib.Omega.{arith}
 use mathlib.Core.List.{List, [], _∷_}
+use Rattle.algebra.specs.Ring.{Ops, minus}
+use Rattle.algebra.proofs.Reading.{reading, ring}
 use Rattle.multilinear.specs.Equality.{agreement}
 use Rattle.multilinear.specs.Successors.{NextParts, evalNext, doneStep, carryStep, omegaStep}
 use Rattle.multilinear.specs.Beside.{evalEq}
 use Rattle.field.specs.Field.{Ext, field, fromWords, valueOf, Holds}
 use Rattle.field.specs.declared.Element.{Element}
 use Rattle.field.specs.declared.Value.{Value}
-use Rattle.field.proofs.Laws.{read-as}
+use Rattle.field.proofs.Laws.{field-ring, read-as}
 use Rattle.table.specs.Table.{elementAt, elements}
 use Rattle.table.specs.declared.Verdict.the-variants.{Accepted}
 use Rattle.point.specs.declared.next.Next.the-variants as next
 use Rattle.point.specs.Point.{nextParts}
 use Rattle.point.proofs.Rest.{rest, rest-none, rest-more, rest-all}
+
+-- what is settled and what is carried, by the product of a pair
+pub settled-by : (s t carry : Ext) → field .mul (minus field t (field .mul s t)) carry ≡ field .mul (field .mul (minus field (field .one) s) t) carry
+settled-by s t carry =
+    reading field-ring (s ∷ t ∷ carry ∷ []) λ q. simp (ring, q, q .at 0, q .at 1, q .at 2) (q .close tt)
+
+pub carried-by : (s t carry : Ext) → field .mul (minus field s (field .mul s t)) carry ≡ carryStep field s t carry
+carried-by s t carry =
+    reading field-ring (s ∷ t ∷ carry ∷ []) λ q. simp (carryStep, ring, q, q .at 0, q .at 1, q .at 2) (q .close tt)
 
 -- at coordinate j of k: what the pairs from j on give
 module _ (ps rs : List ℕ) (k j : ℕ) where
@@ -60,19 +71,21 @@ module _ (ps rs : List ℕ) (k j : ℕ) (h : 0 < j) {s t : Element}
             (rw (read-as _ e₃, read-as _ (d .product-is), read-as _ e₁, read-as _ e₂) at e₄);
       }
 
-  pub next-turn : {carry done last carry₁ done₁ last₁ : Element} → Nexting ps rs k j carry done last
+  pub next-turn : {both carry done last carry₁ done₁ last₁ : Element} → Nexting ps rs k j carry done last
+      → Holds both (field .mul (fromWords s) (fromWords t))
       → Holds done₁ (doneStep field (fromWords s) (fromWords t) (fromWords done) (fromWords carry))
-      → Holds carry₁ (carryStep field (fromWords s) (fromWords t) (fromWords carry))
-      → Holds last₁ (omegaStep field (fromWords s) (fromWords t) (fromWords last)) → Nexting ps rs k (j - 1) carry₁ done₁ last₁
+      → Holds carry₁ (field .mul (minus field (fromWords s) (fromWords both)) (fromWords carry))
+      → Holds last₁ (field .mul (fromWords both) (fromWords last)) → Nexting ps rs k (j - 1) carry₁ done₁ last₁
   unfolding evalNext
-  next-turn d e₃ e₄ e₅ =
+  next-turn d b e₃ e₄ e₅ =
       let p = rest-more ps k j (d .within) h in
       let r = rest-more rs k j (d .within) h in
       record {
         within = omega arith;
-        carry-is = rw (p, r) (rw (read-as _ e₁, read-as _ e₂, read-as _ (d .carry-is)) at e₄);
+        carry-is = rw (p, r)
+            (rw (read-as _ b, carried-by _ _ _, read-as _ e₁, read-as _ e₂, read-as _ (d .carry-is)) at e₄);
         done-is = rw (p, r) (rw (read-as _ e₁, read-as _ e₂, read-as _ (d .done-is), read-as _ (d .carry-is)) at e₃);
-        omega-is = rw (p, r) (rw (read-as _ e₁, read-as _ e₂, read-as _ (d .omega-is)) at e₅);
+        omega-is = rw (p, r) (rw (read-as _ b, read-as _ e₁, read-as _ e₂, read-as _ (d .omega-is)) at e₅);
       }
 
 module _ (ps rs : List ℕ) (k j : ℕ) (z : j ≡ 0) where

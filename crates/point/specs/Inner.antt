@@ -6,7 +6,7 @@ use mathlib.Core.List.{List}
 use lib.ListN.{length}
 use Rattle.algebra.specs.Ring.{Ops, minus}
 use Rattle.algebra.specs.Words.{unreduced}
-use Rattle.field.specs.Field.{p, Ext, field, toWords, Reduced}
+use Rattle.field.specs.Field.{p, Ext, field, toWords, fromWords, Reduced, Holds}
 use Rattle.field.specs.declared.Element.{Element}
 use Rattle.table.specs.Table.{getAt, elementAt}
 use Rattle.table.specs.Refusals.{most}
@@ -18,6 +18,12 @@ pub record Coordinates (k : ℕ) (point : List ℕ) : Type 0 where
   pub few : k ≤ most
   pub count : 4 * k ≤ length point
   pub below : unreduced p point ≡ false
+
+-- two coordinates, and their product
+pub record Paired (s t both : Element) : Type 0 where
+  pub first : Reduced s
+  pub second : Reduced t
+  pub product : Holds both (field .mul (fromWords s) (fromWords t))
 
 -- the coordinate that doubles the table at step i of k
 abbrev pub entering : BitOrder → ℕ → ℕ → ℕ

@@ -1,5 +1,6 @@
 // Equality: at one vertex, and the table of every row.
 use field::Element;
+use field::multiplier::Multiplier;
 use table::Evaluation;
 use table::Refusal;
 use table::Verdict;
@@ -166,9 +167,10 @@ fn double(out: &mut [u32], n: usize, c: Element)
     requires { ⌜ Doubles n c (now out) ⌝ }
     ensures { λ _. ⌜ Doubled n n (fromWords c) (now (out .entry)) (now (out .exit)) ⌝ }
 {
+    let m = Multiplier::new(c);
     for i in 0..n {
         let v = table::get(out, i);
-        let high = v.mul(c);
+        let high = m.times(v);
         let low = v.sub(high);
         table::put(out, n + i, high);
         table::put(out, i, low);

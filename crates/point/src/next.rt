@@ -5,16 +5,16 @@ use table::Evaluation;
 use table::Refusal;
 use table::Verdict;
 ghost use mathlib.Core.Path.{_≡_};
-ghost use Rattle.algebra.specs.Ring.{Ops};
+ghost use Rattle.algebra.specs.Ring.{Ops, minus};
 ghost use Rattle.multilinear.specs.Equality.{agreement};
-ghost use Rattle.multilinear.specs.Successors.{evalNext, doneStep, carryStep, omegaStep};
+ghost use Rattle.multilinear.specs.Successors.{evalNext, doneStep};
 ghost use Rattle.multilinear.specs.Beside.{evalEq};
 ghost use Rattle.field.specs.Field.{field, fromWords, Reduced, Holds};
 ghost use Rattle.table.specs.Table.{elements};
 ghost use Rattle.table.specs.Refusals.{verdict};
 ghost use Rattle.table.specs.declared.Verdict.the-variants.{Accepted};
 ghost use Rattle.point.specs.Point.{pairTests, evalEqAnswer, evalNextAnswer, nextParts};
-ghost use Rattle.point.specs.Inner.{Coordinates};
+ghost use Rattle.point.specs.Inner.{Coordinates, Paired};
 
 pub enum Next {
     Parts {
@@ -70,12 +70,13 @@ fn agreements(point: &[u32], row: &[u32], k: usize) -> Element
         j -= 1;
         let s = table::read(point, j);
         let t = table::read(row, j);
-        product = agree(s, t).mul(product);
+        product = agree(s, t, s.mul(t)).mul(product);
     }
     product
 }
 
-// From the last pair, which goes with the lowest bit, back to coordinate 0.
+// From the last pair, which goes with the lowest bit, back to coordinate 0. The product st of a pair serves every step: five products a
+// pair.
 fn next_parts(point: &[u32], row: &[u32], k: usize) -> Next
     requires { ⌜ Coordinates k (now point) × Coordinates k (now row) ⌝ }
     ensures { λ r. ⌜ r ≡ nextParts Accepted (evalNext field (elements (now (point .entry)) 0 k) (elements (now (row .entry)) 0 k)) ⌝ }
@@ -88,9 +89,10 @@ fn next_parts(point: &[u32], row: &[u32], k: usize) -> Next
         j -= 1;
         let s = table::read(point, j);
         let t = table::read(row, j);
-        done = done_step(s, t, done, carry);
-        carry = carry_step(s, t, carry);
-        omega = omega_step(s, t, omega);
+        let both = s.mul(t);
+        done = done_step(s, t, both, done, carry);
+        carry = carry_step(s, both, carry);
+        omega = both.mul(omega);
     }
     Next::Parts {
         carry: carry.value(),
@@ -99,33 +101,27 @@ fn next_parts(point: &[u32], row: &[u32], k: usize) -> Next
     }
 }
 
-// 2st - s - t + 1.
-fn agree(s: Element, t: Element) -> Element
-    requires { ⌜ Reduced s × Reduced t ⌝ }
+// 2st - s - t + 1, where both is st.
+fn agree(s: Element, t: Element, both: Element) -> Element
+    requires { ⌜ Paired s t both ⌝ }
     ensures { λ r. ⌜ Holds r (agreement field (fromWords s) (fromWords t)) ⌝ }
 {
-    s.mul(t).double().sub(s).sub(t).add(Element::one())
+    both.double().sub(s).sub(t).add(Element::one())
 }
 
-fn done_step(s: Element, t: Element, done: Element, carry: Element) -> Element
-    requires { ⌜ (Reduced s × Reduced t) × (Reduced done × Reduced carry) ⌝ }
+// (2st - s - t + 1) done + (t - st) carry, where both is st.
+fn done_step(s: Element, t: Element, both: Element, done: Element, carry: Element) -> Element
+    requires { ⌜ Paired s t both × (Reduced done × Reduced carry) ⌝ }
     ensures { λ r. ⌜ Holds r (doneStep field (fromWords s) (fromWords t) (fromWords done) (fromWords carry)) ⌝ }
 {
-    let kept = agree(s, t).mul(done);
-    let settled = Element::one().sub(s).mul(t).mul(carry);
-    kept.add(settled)
+    let kept = agree(s, t, both).mul(done);
+    kept.add(t.sub(both).mul(carry))
 }
 
-fn carry_step(s: Element, t: Element, carry: Element) -> Element
-    requires { ⌜ (Reduced s × Reduced t) × Reduced carry ⌝ }
-    ensures { λ r. ⌜ Holds r (carryStep field (fromWords s) (fromWords t) (fromWords carry)) ⌝ }
+// (s - st) carry, where both is st.
+fn carry_step(s: Element, both: Element, carry: Element) -> Element
+    requires { ⌜ (Reduced s × Reduced both) × Reduced carry ⌝ }
+    ensures { λ r. ⌜ Holds r (field .mul (minus field (fromWords s) (fromWords both)) (fromWords carry)) ⌝ }
 {
-    s.mul(Element::one().sub(t)).mul(carry)
-}
-
-fn omega_step(s: Element, t: Element, omega: Element) -> Element
-    requires { ⌜ (Reduced s × Reduced t) × Reduced omega ⌝ }
-    ensures { λ r. ⌜ Holds r (omegaStep field (fromWords s) (fromWords t) (fromWords omega)) ⌝ }
-{
-    s.mul(t).mul(omega)
+    s.sub(both).mul(carry)
 }

@@ -84,16 +84,15 @@ fn test_rest(table: &[u8], point: &[u8], scale: Element, work: &[u8], out: &[u8]
         .refuse_if(unreduced, Refusal::Unreduced)
 }
 
-// 5: a word of the bytes is not below p.
+// 5: a word of the bytes is not below p. It reads on after such a word, as `field::unreduced` does.
 fn is_unreduced(bytes: &[u8]) -> bool
     ensures { λ r. ⌜ r ≡ unreduced p (words (now (bytes .entry))) ⌝ }
 {
+    let mut found = false;
     for i in 0..bytes.len() / 4 {
-        if Element::MODULUS <= octets::word_at(bytes, i) {
-            return true;
-        }
+        found = field::or_above(found, octets::word_at(bytes, i));
     }
-    false
+    found
 }
 
 // What an accepted call does.

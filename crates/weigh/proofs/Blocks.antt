@@ -1,9 +1,10 @@
--- The block of `block_of`: its room, and its table. Assumes nothing.
+-- A block's room, and its table. Assumes nothing.
 use mathlib.Core.Path.{_≡_, ap, _∙_}
 use Prim.Native.Nat.{ℕ, _+_, _*_, _^_, _≤_}
 use native.Mathlib.Omega.{arith}
 use mathlib.Core.List.{List, _++_}
-use lib.ListN.{length, take, drop, replicate, length-append, length-drop, length-replicate}
+use lib.ListN.{length, take, drop, replicate, length-append, length-replicate}
+use lib.Pow.{pow-mono}
 use lib.Seq.{length-take-le}
 use Rattle.algebra.specs.Ring.{Ops}
 use Rattle.algebra.proofs.Words.{unreduced-append, unreduced-drop, unreduced-zeros}
@@ -15,16 +16,23 @@ use Rattle.table.specs.Table.{elements, tableWords}
 use Rattle.table.proofs.Laws.{table-get, table-length}
 use Rattle.table.proofs.Tests.{unreduced-table}
 use Rattle.point.specs.Inner.{Coordinates, Follows}
-use Rattle.weigh.specs.Weigh.{Block}
+use Rattle.weigh.specs.Weigh.{Room, Block}
 use Rattle.weigh.proofs.Splitting.{few-rows}
 
-module _ (point : List ℕ) (high low rows : ℕ) (scale : Element) (room : List ℕ) (few : low ≤ 8) (e : rows ≡ 2 ^ low)
-    (zeros : room ≡ replicate 1024 0) where
-  long : length room ≡ 1024
-  long = ap length zeros ∙ length-replicate {A = ℕ} 1024 0
+-- cleared words
+cleared : {low size : ℕ} {ws : List ℕ} → 4 * 2 ^ low ≤ size → ws ≡ replicate size 0 → Room low ws
+cleared {low} {size} h e =
+    record { enough = rw (e, length-replicate {A = ℕ} size 0) h; below = rw e (unreduced-zeros p p-pos size) }
 
+pub block-cleared : {low : ℕ} {ws : List ℕ} → low ≤ 8 → ws ≡ replicate 1024 0 → Room low ws
+block-cleared {low} few = cleared {size = 1024} (omega (arith, few-rows low few))
+
+pub small-cleared : {low : ℕ} {ws : List ℕ} → low ≤ 2 → ws ≡ replicate 16 0 → Room low ws
+small-cleared {low} few = let m : 2 ^ low ≤ 2 ^ 2 = pow-mono few in cleared {size = 16} (omega arith)
+
+module _ (point : List ℕ) (high low rows : ℕ) (scale : Element) (room : List ℕ) (is : Room low room) (e : rows ≡ 2 ^ low) where
   pub fitting : 4 * rows ≤ length room
-  fitting = omega (arith, long, e, few-rows low few)
+  fitting = omega (arith, e, is .enough)
 
   pub follows : Coordinates (high + low) point → Reduced scale → Follows high low point scale (take (4 * rows) room)
   follows c r =
@@ -36,17 +44,13 @@ module _ (point : List ℕ) (high low rows : ℕ) (scale : Element) (room : List
   pub made : {x : List ℕ} → x ≡ tableWords (2 ^ low) blockAt → Block high low point (fromWords scale) (x ++ drop (4 * rows) room)
   made {x} q =
       record {
-        size = rw q
+        room = rw q
             (omega (
               arith,
               length-append (tableWords (2 ^ low) blockAt) (drop (4 * rows) room),
               table-length (2 ^ low) blockAt,
-              length-drop (4 * rows) room,
-              long,
-              e,
-              fitting,
             ));
         below = rw q (unreduced-append p (tableWords (2 ^ low) blockAt) (drop (4 * rows) room) (unreduced-table (2 ^ low) blockAt)
-            (rw zeros (unreduced-drop p p-pos (4 * rows) (replicate 1024 0) (unreduced-zeros p p-pos 1024))));
+            (unreduced-drop p p-pos (4 * rows) room (is .below)));
         holds = λ y b. rw q (ap fromWords (table-get (2 ^ low) blockAt (drop (4 * rows) room) y b) ∙ read-back _);
       }

@@ -25,7 +25,8 @@ module _ {point ws block : List ℕ} {i high low : ℕ} (parts : PartsExt i high
     pairs =
         let count : length ws ≡ 4 * 2 ^ low = rw (none, zero-add) at (parts .entries-are .count) in
         record {
-          weights-there = omega (arith, e, few-rows low (parts .small), parts .size);
+          few = omega (arith, e, few-rows low (parts .small));
+          weights-there = omega (arith, e, parts .room);
           entries-there = omega (arith, e, count);
           weights-below = parts .below;
           entries-below = parts .entries-are .below;
@@ -52,7 +53,7 @@ module _ {point ws block : List ℕ} {i high low : ℕ} (parts : PartsExt i high
             below = unreduced-take p p-pos (4 * half) ws (parts .entries-are .below);
           };
           small = parts .small;
-          size = parts .size;
+          room = parts .room;
           below = parts .below;
         }
 
@@ -66,7 +67,7 @@ module _ {point ws block : List ℕ} {i high low : ℕ} (parts : PartsExt i high
             below = rest-below half ws (parts .entries-are .below);
           };
           small = parts .small;
-          size = parts .size;
+          room = parts .room;
           below = parts .below;
         }
 

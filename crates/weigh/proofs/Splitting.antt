@@ -30,7 +30,7 @@ pub few-rows : (low : ℕ) → low ≤ 8 → 2 ^ low ≤ 256
 few-rows low few = let m : 2 ^ low ≤ 2 ^ 8 = pow-mono few in omega arith
 
 -- row l of block h is among the rows
-within : (n low h l : ℕ) → h < 2 ^ n → l < 2 ^ low → h * 2 ^ low + l < 2 ^ (n + low)
+pub within : (n low h l : ℕ) → h < 2 ^ n → l < 2 ^ low → h * 2 ^ low + l < 2 ^ (n + low)
 within n low h l a b =
     let m : suc h * 2 ^ low ≤ 2 ^ n * 2 ^ low = mul-le-mul-right (2 ^ low) a in
     omega (arith, pow-add 2 n low)

@@ -44,13 +44,13 @@ module _ {k low : ℕ} (there : low ≤ k) where
             fits = rw together (omega (arith, r .fits));
             words-below = r .below;
             small = small;
-            size = b .size;
+            room = b .room;
             below = b .below;
           }
 
       pub element-parts : {ws : List ℕ} → WholeExt k ws → PartsExt 0 (k - low) low point ws block
       element-parts r =
-          record { point-is = rw from-first c; entries-are = rw together r; small = small; size = b .size; below = b .below }
+          record { point-is = rw from-first c; entries-are = rw together r; small = small; room = b .room; below = b .below }
 
     abbrev us : List Ext
     us = elements point 0 (k - low)

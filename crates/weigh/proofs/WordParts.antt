@@ -1,4 +1,4 @@
--- What `part` and `halves` lend their calls, and what they give. Assumes nothing.
+-- What `part`, `trimmed` and `halves` lend their calls, and what they give. Assumes nothing.
 use mathlib.Core.Path.{_≡_, sym, ap, ap₂, _∙_}
 use Prim.Native.Nat.{ℕ, _+_, _-_, _*_, _^_, _≤_}
 use native.Mathlib.Nat.{zero-add}
@@ -28,6 +28,15 @@ use Rattle.weigh.proofs.Splitting.{few-rows, one-block, twice, fewer, j
 pub absent : (e : Ext) {w : ℕ} → w ≡ 0 → field .mul e (base w) ≡ field .zero
 absent e q = ap (λ v. field .mul e (base v)) q ∙ ap (field .mul e) base-zero ∙ mul-zero field-ring e
 
+-- no row has a word
+pub no-words : (low : ℕ) (block : List ℕ) (zs : List Ext) (word : ℕ → ℕ) → ((y : ℕ) → word y ≡ 0)
+    → valueAt field zs (blockSum low block word) ≡ field .zero
+unfolding blockSum
+no-words low block zs word e =
+    value-ext field-ring zs _ _
+    (λ h b. sum-ext field-ring (2 ^ low) _ _ (λ l c. absent (elementAt block l) (e _)) ∙ sum-none field-ring (2 ^ low))
+    ∙ value-none field-ring zs
+
 -- what is left of a sum after a part of each
 pub left-over : (a b s c : ℕ) {n : ℕ} → s ≤ a → c ≤ b → a + b ≤ s + c + n → a - s + (b - c) ≤ n
 left-over a b s c h k m = omega arith
@@ -36,18 +45,11 @@ module _ {point words block : List ℕ} {i high low from : ℕ} (parts : Parts i
   -- no word is there
   pub nothing : length words ≡ 0 → {x : Element} → Holds x (field .zero)
       → Holds x (valueAt field (elements point i high) (blockSum low block (placed from words)))
-  unfolding blockSum
-  nothing e d = rw (value-ext field-ring (elements point i high) _ _ (λ h b. zeros h) ∙ value-none field-ring _) d
-    where
-      zeros : (h : ℕ)
-          → sumTo field (2 ^ low) (λ l. field .mul (elementAt block l) (base (placed from words (h * 2 ^ low + l)))) ≡ field .zero
-      zeros h =
-          sum-ext field-ring (2 ^ low) _ _ (λ l b. absent (elementAt block l) (placed-none from words e _))
-          ∙ sum-none field-ring (2 ^ low)
+  nothing e d = rw (no-words low block (elements point i high) (placed from words) (placed-none from words e)) d
 
   -- no coordinate is left: a weight for each word that is there
   module _ (none : high ≡ 0) where
-    few-words : from + length words ≤ 2 ^ low
+    pub few-words : from + length words ≤ 2 ^ low
     few-words = rw (none, zero-add) at (parts .fits)
 
     pub few : from + length words ≤ 256
@@ -64,7 +66,7 @@ module _ {point words block : List ℕ} {i high low from : ℕ} (parts : Parts i
     weights-length : length weights ≡ 4 * length words
     weights-length =
         ap length weights-are
-        ∙ length-take-le (4 * length words) (drop (4 * from) block) (omega (arith, few, parts .size, length-drop (4 * from) block))
+        ∙ length-take-le (4 * length words) (drop (4 * from) block) (omega (arith, few-words, parts .room, length-drop (4 * from) block))
 
     pub dots : Dots weights words
     dots =
@@ -108,7 +110,7 @@ module _ {point words block : List ℕ} {i high low from : ℕ} (parts : Parts i
           fits = omega (arith, e, l, s, c);
           words-below = unreduced-take p p-pos cut words (parts .words-below);
           small = parts .small;
-          size = parts .size;
+          room = parts .room;
           below = parts .below;
         }
 
@@ -121,7 +123,7 @@ module _ {point words block : List ℕ} {i high low from : ℕ} (parts : Parts i
           fits = rw (after-length cut words, sym e) (left-over from (length words) start cut (omega (arith, s)) cut-there o);
           words-below = after-below cut words (parts .words-below);
           small = parts .small;
-          size = parts .size;
+          room = parts .room;
           below = parts .below;
         }
 

@@ -1,9 +1,9 @@
 -- What the sums against eq take and give. No exported operation's contract cites it. Assumes nothing.
 use mathlib.Core.Path.{_≡_}
 use mathlib.Core.Bool.{false}
-use Prim.Native.Nat.{ℕ, suc, _+_, _*_, _^_, _≤_, _<_}
+use Prim.Native.Nat.{ℕ, suc, _+_, _*_, _%_, _^_, _≤_, _<_}
 use mathlib.Core.List.{List}
-use lib.ListN.{length, getD}
+use lib.ListN.{length}
 use Rattle.algebra.specs.Ring.{Ops}
 use Rattle.algebra.specs.Sum.{sumTo}
 use Rattle.algebra.specs.Words.{unreduced}
@@ -28,9 +28,14 @@ pub record WholeExt (k : ℕ) (ws : List ℕ) : Type 0 where
   pub count : length ws ≡ 4 * 2 ^ k
   pub below : unreduced p ws ≡ false
 
+-- a block of low variables has room in the words
+pub record Room (low : ℕ) (ws : List ℕ) : Type 0 where
+  pub enough : 4 * 2 ^ low ≤ length ws
+  pub below : unreduced p ws ≡ false
+
 -- the table of scale·eq of the low coordinates that follow the first high ones
 pub record Block (high low : ℕ) (point : List ℕ) (scale : Ext) (block : List ℕ) : Type 0 where
-  pub size : length block ≡ 1024
+  pub room : 4 * 2 ^ low ≤ length block
   pub below : unreduced p block ≡ false
   pub holds : (y : ℕ) → y < 2 ^ low → elementAt block y ≡ field .mul scale (eqAt field (elements point high low) y)
 
@@ -41,14 +46,20 @@ pub record Parts (i high low from : ℕ) (point words block : List ℕ) : Type 0
   pub fits : from + length words ≤ 2 ^ (high + low)
   pub words-below : unreduced p words ≡ false
   pub small : low ≤ 8
-  pub size : length block ≡ 1024
+  pub room : 4 * 2 ^ low ≤ length block
   pub below : unreduced p block ≡ false
+
+-- the words, of which there are some, are in one part of the table with `own` of the high variables
+pub record InRow (high own low from : ℕ) (words : List ℕ) : Type 0 where
+  pub own-fits : own ≤ high
+  pub some : 0 < length words
+  pub together : from % 2 ^ (own + low) + length words ≤ 2 ^ (own + low)
 
 pub record PartsExt (i high low : ℕ) (point ws block : List ℕ) : Type 0 where
   pub point-is : Coordinates (i + high + low) point
   pub entries-are : WholeExt (high + low) ws
   pub small : low ≤ 8
-  pub size : length block ≡ 1024
+  pub room : 4 * 2 ^ low ≤ length block
   pub below : unreduced p block ≡ false
 
 -- block h of a table of base words, summed against the block's table

@@ -7,18 +7,23 @@
 // What is left at the last 8 variables, or fewer, is summed against their table of eq, which is made once.
 use field::Element;
 ghost use mathlib.Core.Path.{_≡_};
-ghost use Prim.Native.Nat.{_+_, _≤_};
+ghost use Prim.Native.Nat.{_+_, _^_, _%_, _≤_};
+ghost use lib.Dec.{ltb};
 ghost use lib.ListN.{getD, replicate};
 ghost use Rattle.algebra.specs.Ring.{Ops};
 ghost use Rattle.multilinear.specs.Values.{valueAt};
 ghost use Rattle.multilinear.specs.Beside.{line};
 ghost use Rattle.field.specs.Field.{field, base, fromWords, Reduced, Holds};
 ghost use Rattle.table.specs.Table.{elementAt, elements, placed};
+ghost use Rattle.table.specs.Refusals.{most};
 ghost use Rattle.point.specs.Inner.{Coordinates};
-ghost use Rattle.weigh.specs.Weigh.{Row, WholeExt, Block, Parts, PartsExt, blockSum, blockSumExt};
+ghost use Rattle.weigh.specs.Weigh.{Row, WholeExt, Room, Block, Parts, InRow, PartsExt, blockSum, blockSumExt};
 
 // The most variables of a block.
 pub const BLOCK: usize = 8;
+
+// The most variables of a small block.
+pub const SMALL_BLOCK: usize = 2;
 
 // scale times the sum of eq[y] words[y] over the rows of k coordinates. The last row's word may be missing, and counts as 0.
 pub fn weigh(words: &[u32], point: &[u32], k: usize, scale: Element) -> Element
@@ -52,16 +57,39 @@ pub fn block_of(point: &[u32], high: usize, low: usize, scale: Element) -> [u32;
     requires { ⌜ (Coordinates (high + low) (now point) × Reduced scale) × (low ≤ 8) ⌝ }
     ensures { λ r. ⌜ Block high low (now (point .entry)) (fromWords scale) r ⌝ }
 {
-    let words = 4 * table::rows(low);
     let mut block = block_room();
-    point::equality::fill_last(&mut block[..words], point, high, low, scale);
+    fill_block(&mut block, point, high, low, scale);
     block
+}
+
+// The same for a small block: there is less to clear.
+pub fn small_block_of(point: &[u32], high: usize, low: usize, scale: Element) -> [u32; 16]
+    requires { ⌜ (Coordinates (high + low) (now point) × Reduced scale) × (low ≤ 2) ⌝ }
+    ensures { λ r. ⌜ Block high low (now (point .entry)) (fromWords scale) r ⌝ }
+{
+    let mut block = small_room();
+    fill_block(&mut block, point, high, low, scale);
+    block
+}
+
+fn fill_block(block: &mut [u32], point: &[u32], high: usize, low: usize, scale: Element)
+    requires { ⌜ (Coordinates (high + low) (now point) × Reduced scale) × Room low (now block) ⌝ }
+    ensures { λ _. ⌜ Block high low (now (point .entry)) (fromWords scale) (now (block .exit)) ⌝ }
+{
+    let words = 4 * table::rows(low);
+    point::equality::fill_last(&mut block[..words], point, high, low, scale);
 }
 
 fn block_room() -> [u32; 1024]
     ensures { λ r. ⌜ r ≡ replicate 1024 0 ⌝ }
 {
     [0u32; 1024]
+}
+
+fn small_room() -> [u32; 16]
+    ensures { λ r. ⌜ r ≡ replicate 16 0 ⌝ }
+{
+    [0u32; 16]
 }
 
 // The value, at the coordinates i to i + high - 1, of the sums of the blocks against the block's table. The words stand at the rows
@@ -85,7 +113,72 @@ pub fn part(
             return kernel::dot_few(&block[start..end], words);
         }
     }
-    halves(words, from, point, i, high, low, block)
+    trimmed(words, from, point, i, high, low, block)
+}
+
+// The same, in the smallest part of the table that has all the words.
+fn trimmed(
+    words: &[u32],
+    from: usize,
+    point: &[u32],
+    i: usize,
+    high: usize,
+    low: usize,
+    block: &[u32],
+) -> Element
+    requires { ⌜ Parts i high low from (now point) (now words) (now block) ⌝ }
+    ensures { λ r. ⌜ Holds r (valueAt field (elements (now (point .entry)) i high) (blockSum low (now (block .entry)) (placed from (now (words .entry))))) ⌝ }
+{
+    if words.len() == 0 {
+        return Element::zero();
+    }
+    let own = spanned(from, words.len(), high, low);
+    if own == high {
+        return halves(words, from, point, i, high, low, block);
+    }
+    in_row(words, from, point, i, high, own, low, block)
+}
+
+// How many of the high variables that part has.
+fn spanned(from: usize, len: usize, high: usize, low: usize) -> usize
+    requires { ⌜ (high + low ≤ most) × (from + len ≤ 2 ^ (high + low)) ⌝ }
+    ensures { λ r. ⌜ (r ≤ high) × (from % 2 ^ (r + low) + len ≤ 2 ^ (r + low)) ⌝ }
+{
+    let mut own = 0;
+    while crosses(from, len, own + low) {
+        own += 1;
+    }
+    own
+}
+
+// The words pass the end of the part of 2^n rows that they start in.
+fn crosses(from: usize, len: usize, n: usize) -> bool
+    requires { ⌜ (n ≤ most) × (len ≤ 2 ^ most) ⌝ }
+    ensures { λ r. ⌜ r ≡ ltb (2 ^ n) (from % 2 ^ n + len) ⌝ }
+{
+    let rows = table::rows(n);
+    rows < from % rows + len
+}
+
+// The same of words in a part that has `own` of the high variables. It is one row of those before: eq of the row times the part's value.
+fn in_row(
+    words: &[u32],
+    from: usize,
+    point: &[u32],
+    i: usize,
+    high: usize,
+    own: usize,
+    low: usize,
+    block: &[u32],
+) -> Element
+    requires { ⌜ Parts i high low from (now point) (now words) (now block) × InRow high own low from (now words) ⌝ }
+    ensures { λ r. ⌜ Holds r (valueAt field (elements (now (point .entry)) i high) (blockSum low (now (block .entry)) (placed from (now (words .entry))))) ⌝ }
+{
+    let rows = table::rows(own + low);
+    let first = 4 * i;
+    let eq = point::equality::at_row(&point[first..], high - own, from / rows);
+    let sum = halves(words, from % rows, point, i + (high - own), own, low, block);
+    eq.mul(sum)
 }
 
 // The same, by the halves of the words.

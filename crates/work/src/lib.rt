@@ -3,6 +3,7 @@
 //     work     eq0: scale eq of the first half of the coordinates | eq1: eq of the others
 //     row y    has the weight eq0[y / n1] eq1[y % n1], n1 being the entries of eq1
 use field::Element;
+use field::multiplier::Multiplier;
 use point::equality::BitOrder;
 ghost use mathlib.Core.Path.{_≡_};
 ghost use Prim.Native.Nat.{_+_, _-_, _*_, _^_, _≤_, _<_};
@@ -150,8 +151,9 @@ fn gain_table(work: &[u32], first: usize, n: usize, seed: Element, from: usize, 
     requires { ⌜ Block first n from (now work) (now out) × Reduced seed ⌝ }
     ensures { λ _. ⌜ Gained from n (λ y. field .mul (fromWords seed) (elementAt (now (work .entry)) (first + y))) (now (out .entry)) (now (out .exit)) ⌝ }
 {
+    let m = Multiplier::new(seed);
     for i in 0..n {
-        let gain = seed.mul(table::read(work, first + i));
+        let gain = m.times(table::read(work, first + i));
         let sum = table::read(out, from + i).add(gain);
         table::put(out, from + i, sum);
     }

@@ -17,35 +17,103 @@ typedef struct {
 
 static const element one = {{1, 0, 0, 0}};
 
+static inline uint32_t word_plus(uint32_t a, uint32_t b) {
+    uint32_t sum = a + b;
+    return sum >= P ? sum - P : sum;
+}
+
+static inline uint32_t word_minus(uint32_t a, uint32_t b) {
+    return a < b ? a - b + P : a - b;
+}
+
 static inline element plus(element x, element y) {
     for (int i = 0; i < 4; i++) {
-        uint32_t sum = x.c[i] + y.c[i];
-        x.c[i] = sum >= P ? sum - P : sum;
+        x.c[i] = word_plus(x.c[i], y.c[i]);
     }
     return x;
 }
 
 static inline element minus(element x, element y) {
     for (int i = 0; i < 4; i++) {
-        uint32_t difference = x.c[i] - y.c[i];
-        x.c[i] = x.c[i] < y.c[i] ? difference + P : difference;
+        x.c[i] = word_minus(x.c[i], y.c[i]);
     }
     return x;
 }
 
-/* Sums of products in 64 bits, and those of X^4, X^5 and X^6 reduced before they
-   are multiplied by 11. Seven `%`. */
-static inline element product(element x, element y) {
+/* X^4. */
+#define FACTOR 11u
+
+/* 2^32 modulo P. */
+#define UNIT 268435454u
+
+/* The coefficients of a product of polynomials, each the sum of at most four
+   products, which fit 64 bits. */
+typedef struct {
+    uint64_t c[7];
+} coefficients;
+
+static inline coefficients multiplied(element x, element y) {
     uint64_t x0 = x.c[0], x1 = x.c[1], x2 = x.c[2], x3 = x.c[3];
     uint64_t y0 = y.c[0], y1 = y.c[1], y2 = y.c[2], y3 = y.c[3];
-    uint64_t s4 = (x1 * y3 + x2 * y2 + x3 * y1) % P;
-    uint64_t s5 = (x2 * y3 + x3 * y2) % P;
-    uint64_t s6 = x3 * y3 % P;
+    coefficients out = {{
+        x0 * y0,
+        x0 * y1 + x1 * y0,
+        x0 * y2 + x1 * y1 + x2 * y0,
+        x0 * y3 + x1 * y2 + x2 * y1 + x3 * y0,
+        x1 * y3 + x2 * y2 + x3 * y1,
+        x2 * y3 + x3 * y2,
+        x3 * y3,
+    }};
+    return out;
+}
+
+/* A number of the same residue that has room for the factor. */
+static inline uint64_t shrunk(uint64_t n) {
+    return (uint32_t)n + (n >> 32) * UNIT;
+}
+
+/* What stands at X^4, X^5 and X^6 comes back times 11. Four `%`. */
+static inline element product(element x, element y) {
+    coefficients s = multiplied(x, y);
     element out = {{
-        (uint32_t)((x0 * y0 + 11 * s4) % P),
-        (uint32_t)((x0 * y1 + x1 * y0 + 11 * s5) % P),
-        (uint32_t)((x0 * y2 + x1 * y1 + x2 * y0 + 11 * s6) % P),
-        (uint32_t)((x0 * y3 + x1 * y2 + x2 * y1 + x3 * y0) % P),
+        (uint32_t)((s.c[0] + FACTOR * shrunk(s.c[4])) % P),
+        (uint32_t)((s.c[1] + FACTOR * shrunk(s.c[5])) % P),
+        (uint32_t)((s.c[2] + FACTOR * shrunk(s.c[6])) % P),
+        (uint32_t)(s.c[3] % P),
+    }};
+    return out;
+}
+
+/* A factor r, made ready for many products: with t = 11 r, the matrix of x r has
+   the blocks A = r0 t3 / r1 r0 twice, B = t2 t1 / t3 t2 and C = r2 r1 / r3 r2;
+   these are A, B - A and C - A. */
+typedef struct {
+    uint32_t a[3], b[3], c[3];
+} multiplier;
+
+static inline multiplier ready(element r) {
+    uint32_t t[4];
+    for (int i = 0; i < 4; i++) {
+        t[i] = (uint32_t)((uint64_t)r.c[i] * FACTOR % P);
+    }
+    multiplier m = {
+        {r.c[0], t[3], r.c[1]},
+        {word_minus(t[2], r.c[0]), word_minus(t[1], t[3]), word_minus(t[3], r.c[1])},
+        {word_minus(r.c[2], r.c[0]), word_minus(r.c[1], t[3]), word_minus(r.c[3], r.c[1])},
+    };
+    return m;
+}
+
+/* Twelve products of words and four `%`. */
+static inline element times(multiplier m, element x) {
+    uint64_t x0 = x.c[0], x1 = x.c[1], x2 = x.c[2], x3 = x.c[3];
+    uint64_t s0 = word_plus(x.c[0], x.c[2]), s1 = word_plus(x.c[1], x.c[3]);
+    uint64_t p0 = s0 * m.a[0] + s1 * m.a[1], p1 = s0 * m.a[2] + s1 * m.a[0];
+    element out = {{
+        (uint32_t)((p0 + x2 * m.b[0] + x3 * m.b[1]) % P),
+        (uint32_t)((p1 + x2 * m.b[2] + x3 * m.b[0]) % P),
+        (uint32_t)((p0 + x0 * m.c[0] + x1 * m.c[1]) % P),
+        (uint32_t)((p1 + x0 * m.c[2] + x1 * m.c[0]) % P),
     }};
     return out;
 }
@@ -78,9 +146,9 @@ static void fill(element *out, const element *point, int k, element scale) {
     out[0] = scale;
     for (int j = 0; j < k; j++) {
         size_t n = (size_t)1 << j;
-        element c = point[k - 1 - j];
+        multiplier c = ready(point[k - 1 - j]);
         for (size_t i = 0; i < n; i++) {
-            element high = product(out[i], c);
+            element high = times(c, out[i]);
             out[n + i] = high;
             out[i] = minus(out[i], high);
         }
@@ -177,6 +245,96 @@ uint32_t reference_compress_prefix(const uint32_t *table, int n, const element *
             weights[j] = product(work[y / n1], eq1[y % n1 + j]);
         }
         gain_rows(out, table + y * inner, inner, weights);
+    }
+    return 0;
+}
+
+/* The sum of weights[i] entries[i]: the seven coefficients of the products are
+   summed as halves of 32 bits, and divided once. */
+static element dot_ext(const element *weights, const element *entries, size_t count) {
+    uint64_t lo[7] = {0}, hi[7] = {0}, c[7];
+    for (size_t i = 0; i < count; i++) {
+        coefficients s = multiplied(weights[i], entries[i]);
+        for (int k = 0; k < 7; k++) {
+            lo[k] += (uint32_t)s.c[k];
+            hi[k] += s.c[k] >> 32;
+        }
+    }
+    for (int k = 0; k < 7; k++) {
+        c[k] = (lo[k] + (hi[k] % P << 32)) % P;
+    }
+    element out = {{
+        (uint32_t)((c[0] + FACTOR * c[4]) % P),
+        (uint32_t)((c[1] + FACTOR * c[5]) % P),
+        (uint32_t)((c[2] + FACTOR * c[6]) % P),
+        (uint32_t)c[3],
+    }};
+    return out;
+}
+
+/* As `part`, of a table of elements. */
+static element part_ext(const element *entries, const element *point, int high, int low, const element *block) {
+    if (high == 0) {
+        return dot_ext(block, entries, (size_t)1 << low);
+    }
+    element at0 = part_ext(entries, point + 1, high - 1, low, block);
+    element at1 = part_ext(entries + ((size_t)1 << (high - 1 + low)), point + 1, high - 1, low, block);
+    return plus(at0, product(minus(at1, at0), point[0]));
+}
+
+/* The value of a table of elements at a point of n coordinates. */
+uint32_t reference_eval_ext(const element *table, int n, const element *point, element *out) {
+    if (unreduced(table, 1 << n) | unreduced(point, n)) {
+        return 5;
+    }
+    int low = n < BLOCK ? n : BLOCK;
+    element block[1 << BLOCK];
+    fill(block, point + (n - low), low, one);
+    *out = part_ext(table, point, n - low, low, block);
+    return 0;
+}
+
+/* a0 + (a1 - a0) r over the halves of a table of 2^n elements. */
+uint32_t reference_fix_prefix(element *table, int n, const element *r) {
+    if (unreduced(table, 1 << n) | unreduced(r, 1)) {
+        return 5;
+    }
+    size_t half = (size_t)1 << (n - 1);
+    multiplier m = ready(*r);
+    for (size_t i = 0; i < half; i++) {
+        table[i] = plus(table[i], times(m, minus(table[half + i], table[i])));
+    }
+    return 0;
+}
+
+/* a0 + a1 over the halves of a table of 2^n elements. */
+uint32_t reference_sum_prefix(element *table, int n) {
+    if (unreduced(table, 1 << n)) {
+        return 5;
+    }
+    size_t half = (size_t)1 << (n - 1);
+    for (size_t i = 0; i < half; i++) {
+        table[i] = plus(table[i], table[half + i]);
+    }
+    return 0;
+}
+
+/* out gains given scale eq: both tables of the point in work, a factor a block
+   of rows. */
+uint32_t reference_accumulate(const element *point, int k, const element *scale, const element *given, element *work,
+    element *out) {
+    if (unreduced(out, 1 << k) | unreduced(point, k) | unreduced(scale, 1) | unreduced(given, 1)) {
+        return 5;
+    }
+    size_t n0 = (size_t)1 << (k / 2), n1 = (size_t)1 << (k - k / 2);
+    element *eq1 = work + n0;
+    fill(work, point, k / 2, *scale);
+    fill(eq1, point + k / 2, k - k / 2, one);
+    for (size_t h = 0; h < n0; h++) {
+        multiplier m = ready(product(*given, work[h]));
+        for (size_t i = 0; i < n1; i++) {
+            out[h * n1 + i] = plus(out[h * n1 + i], times(m, eq1[i]));
+        }
     }
     return 0;
 }

@@ -1,7 +1,13 @@
 -- `fixing::halve` meets its contract: by the rule. Assumes nothing.
+use native.Mathlib.Omega.{arith}
 use borrow.Author.Needs.{needs}
+use Rattle.fixing.proofs.Making.{made-table}
+use Rattle.fixing.proofs.Halving.{all-pairs}
 use Rattle.fixing.proofs.halve.Statement.{statement}
 use Rattle.fixing.proofs.halve.Tie as tie
+
+add-part-requires : tie.Need-add-part-requires
+add-part-requires c κs = all-pairs _ _ (c .before .before .before .before .pre .0)
 
 returns : tie.Need-returns
 returns c =
@@ -16,7 +22,7 @@ returns-2 c =
 returns-3 : tie.Need-returns-3
 returns-3 c =
     let halve = c .before .before in
-    rw (halve .before .before .enum-told3 .given .1) (halve .halve-sum .ensures)
+    rw (halve .before .before .enum-told3 .given .1) (made-table _ _ _ _ (halve .add-part .ensures) (omega arith))
 
 returns-4 : tie.Need-returns-4
 returns-4 c =
@@ -32,7 +38,7 @@ halve-spec =
     (search needs)
     (λ c κs. search needs)
     (search needs)
-    (λ c κs. search needs)
+    add-part-requires
     (search needs)
     (λ c κs. search needs)
     (search needs)

@@ -8,7 +8,7 @@ use borrow.Fn.Kinds.{In}
 use borrow.Fn.PlainCycle.{Measures, is, falls, and}
 use lib.ListN.{length}
 use lib.Seq.{length-take-le}
-use Rattle.weigh.proofs.WordParts.{nothing, few, dots, dotted, low-parts, high-parts, words-joined}
+use Rattle.weigh.proofs.WordParts.{nothing, few-words, few, dots, dotted, low-parts, high-parts, words-joined}
 use Rattle.weigh.proofs.halves.Reads as halves
 use Rattle.weigh.proofs.halves.Kinds as halves-kinds
 use Rattle.weigh.proofs.+halves.Lts-halves as halves-lts
@@ -115,7 +115,7 @@ pub +halves-spec : {M : Type 1} → statement M
     (λ c. omega (arith, little t c))
     (λ c. omega arith)
     (λ c. omega arith)
-    (λ c. omega (arith, little t c, c .before .before .before .before .before .pre .1 .size))
+    (λ c. omega (arith, few-words (c .before .before .before .before .before .pre .1) (c .if2 .taken), c .before .before .before .before .before .pre .1 .room))
     (λ c κs. dots (c .before .before .before .before .before .before .pre .1) (c .before .if2 .taken))
     (search needs)
     (search needs)

@@ -3,7 +3,7 @@ use Prim.Native.Nat.{_+_, _≤_}
 use native.Mathlib.Omega.{arith}
 use borrow.Author.Needs.{needs}
 use lib.ListN.{length}
-use Rattle.weigh.proofs.WordParts.{few, dots, dotted}
+use Rattle.weigh.proofs.WordParts.{few-words, few, dots, dotted}
 use Rattle.weigh.proofs.part.Statement.{statement}
 use Rattle.weigh.proofs.part.Tie as tie
 
@@ -35,7 +35,7 @@ part-spec =
     (λ c. omega (arith, little c))
     (λ c. omega arith)
     (λ c. omega arith)
-    (λ c. omega (arith, little c, begin c .pre .size))
+    (λ c. omega (arith, few-words (begin c .pre) (c .before .if1 .taken), begin c .pre .room))
     dot-few-requires
     returns
     (λ c κs. search needs)

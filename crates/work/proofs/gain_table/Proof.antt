@@ -4,9 +4,9 @@ use Prim.Native.Nat.{_+_, _-_, _*_, _≤_, _<_}
 use native.Mathlib.Omega.{arith}
 use borrow.Author.Needs.{needs}
 use lib.ListN.{length}
-use Rattle.algebra.specs.Ring.{Ops}
+use Rattle.algebra.specs.Ring.{Ops, CommRing}
 use Rattle.field.specs.Field.{field, fromWords}
-use Rattle.field.proofs.Laws.{read-as}
+use Rattle.field.proofs.Laws.{field-ring, read-as}
 use Rattle.table.specs.Table.{elementAt}
 use Rattle.table.specs.Inner.{Gained}
 use Rattle.table.proofs.Gaining.{none, turn}
@@ -14,24 +14,30 @@ use Rattle.work.proofs.gain_table.Statement.{statement}
 use Rattle.work.proofs.gain_table.Tie as tie
 
 abbrev Inv-loop : tie.InvT-loop
-Inv-loop work first n seed from out₀ i₀ out i =
-    (i ≤ n) × Gained from i (λ y. field .mul (fromWords seed) (elementAt work (first + y))) out₀ out
+Inv-loop work first n from out₀ m i₀ out i =
+    (i ≤ n) × Gained from i (λ y. field .mul (fromWords (m .r)) (elementAt work (first + y))) out₀ out
 
 abbrev μ-loop : tie.MeasureT-loop
-μ-loop work first n seed from out₀ i₀ out i = n - i
+μ-loop work first n from out₀ m i₀ out i = n - i
 
 loop-holds : tie.Need-loop-holds Inv-loop μ-loop
 loop-holds c = (omega arith, none _ _ _)
 
 module _ (test : tie.In-loop Inv-loop μ-loop) where
+  abbrev new : tie.After-new Inv-loop μ-loop
+  new = test .before .before
+
   abbrev begin : tie.Start Inv-loop μ-loop
-  begin = test .before .before .before .before
+  begin = new .before .before .before
 
 read-requires : tie.Need-read-requires Inv-loop μ-loop
 read-requires c κs = let is = begin c .pre .0 in (omega (arith, is .there), is .work-below)
 
-mul-requires : tie.Need-mul-requires Inv-loop μ-loop
-mul-requires c κs = (begin (c .before) .pre .1, c .read .ensures .below)
+times-requires : tie.Need-times-requires Inv-loop μ-loop
+times-requires c κs = (new (c .before) .new .ensures .1, c .read .ensures .below)
+
+add-read-2 : tie.Need-add-read-2 Inv-loop μ-loop
+add-read-2 c = search needs
 
 read-requires-2 : tie.Need-read-requires-2 Inv-loop μ-loop
 read-requires-2 c κs =
@@ -41,28 +47,33 @@ read-requires-2 c κs =
     (omega (arith, is .room, d .len), d .below (is .out-below))
 
 add-requires : tie.Need-add-requires Inv-loop μ-loop
-add-requires c κs = (c .read2 .ensures .below, c .before .before .mul .ensures .below)
+add-requires c κs = (c .read2 .ensures .below, c .before .before .times .ensures .below)
+
+-- the place is written as it was read
+add-put : tie.Need-add-put Inv-loop μ-loop
+add-put c = add-read-2 (c .before .before .before)
 
 loop-again : tie.Need-loop-again Inv-loop μ-loop
 loop-again c =
     let put = c .before .before in
     let add = put .before .before in
     let read2 = add .before in
-    let mul = read2 .before .before in
-    let test = mul .before .before in
+    let times = read2 .before .before in
+    let test = times .before .before in
+    let r = fromWords (new test .new .result .r) in
     let args = begin test .args in
     let fits : 4 * (args .from + test .before .loop .i) + 3 < length (args .out .now) = omega (arith, begin test .pre .0 .room) in (
       omega arith,
       turn _ _ _ _ _ (test .before .loop .inv .1) fits _ refl _ _ (read-as _ (read2 .read2 .ensures))
-          (read-as _ (mul .mul .ensures) ∙ ap (field .mul (fromWords (args .seed))) (read-as _ (mul .before .read .ensures)))
+          (read-as _ (times .times .ensures) ∙ ap (λ x. field .mul x r) (read-as _ (times .before .read .ensures)) ∙ field-ring .mul-comm _ r)
           (add .add .ensures) (put .put .ensures),
     )
 
 returns : tie.Need-returns Inv-loop μ-loop
 returns c =
     let at = c .before in
-    let q : at .loop .i ≡ at .before .before .before .args .n = omega arith in
-    rw q at (at .loop .inv .1)
+    let q : at .loop .i ≡ at .before .before .before .before .args .n = omega arith in
+    rw (q, at .before .new .ensures .0) at (at .loop .inv .1)
 
 pub gain-table-spec : {M : Type 1} → statement M
 gain-table-spec =
@@ -70,14 +81,15 @@ gain-table-spec =
     (tie.spec
     Inv-loop
     μ-loop
+    (λ c κs. c .before .before .pre .1)
     loop-holds
     (search needs)
     read-requires
-    mul-requires
-    (search needs)
+    times-requires
+    add-read-2
     read-requires-2
     add-requires
-    (search needs)
+    add-put
     (search needs)
     (search needs)
     (search needs)

@@ -33,6 +33,9 @@ pub const SUFFIX_SHIFTED: (&str, Fold, RustFold) = (
     |s, t| s.compress_suffix_shifted(t),
 );
 
+/// point, scale, given scale, work, out.
+type Accumulate = fn(&[u32], &[u32], &[u32], &mut [u32], &mut [u32]) -> u32;
+
 const COORDINATES: [usize; 4] = [1, 10, 19, 20];
 
 pub fn run(bench: &mut Bench, input: &Input) {
@@ -113,12 +116,20 @@ fn accumulate(input: &Input, k: usize) -> Vec<Side<'_>> {
             clock.leaves(|| out.words());
         })
     });
-    let (point, mut work, mut out) = (input.coordinates(k), work(k), entries.to_vec());
     let mut sides = Vec::from(sides);
-    sides.push(Side::new(Ours, move |clock| {
-        let call = || host::accumulate_into(point, &SCALE, &GIVEN, &mut work, &mut out);
-        assert_eq!(clock.each(call), 0);
-        clock.leaves(|| out.clone());
+    let calls: [(Who, Accumulate); 2] = [
+        (Ours, host::accumulate_into),
+        (C, |point, _, _, work, out| {
+            reference::accumulate(point, &SCALE, &GIVEN, work, out)
+        }),
+    ];
+    sides.extend(calls.map(|(who, call)| {
+        let (point, mut work, mut out) = (input.coordinates(k), work(k), entries.to_vec());
+        Side::new(who, move |clock| {
+            let call = || call(point, &SCALE, &GIVEN, &mut work, &mut out);
+            assert_eq!(clock.each(call), 0);
+            clock.leaves(|| out.clone());
+        })
     }));
     sides
 }

@@ -13,6 +13,17 @@ unsafe extern "C" {
         out: *mut u32,
     ) -> u32;
     fn reference_eval_base(table: *const u32, n: c_int, point: *const u32, out: *mut u32) -> u32;
+    fn reference_eval_ext(table: *const u32, n: c_int, point: *const u32, out: *mut u32) -> u32;
+    fn reference_fix_prefix(table: *mut u32, n: c_int, r: *const u32) -> u32;
+    fn reference_sum_prefix(table: *mut u32, n: c_int) -> u32;
+    fn reference_accumulate(
+        point: *const u32,
+        k: c_int,
+        scale: *const u32,
+        given: *const u32,
+        work: *mut u32,
+        out: *mut u32,
+    ) -> u32;
     fn reference_compress_suffix(
         table: *const u32,
         n: c_int,
@@ -67,6 +78,55 @@ pub fn eval_base(table: &[u32], point: &[u32], out: &mut [u32]) -> u32 {
     unsafe { reference_eval_base(table.as_ptr(), n, point.as_ptr(), out.as_mut_ptr()) }
 }
 
+pub fn eval_ext(table: &[u32], point: &[u32], out: &mut [u32]) -> u32 {
+    let n = elements(point);
+    assert!(table.len() == 4 << n && out.len() == 4);
+    unsafe { reference_eval_ext(table.as_ptr(), n, point.as_ptr(), out.as_mut_ptr()) }
+}
+
+pub fn fix_prefix(table: &mut [u32], r: &[u32; 4]) -> u32 {
+    let n = entry_variables(table);
+    unsafe { reference_fix_prefix(table.as_mut_ptr(), n, r.as_ptr()) }
+}
+
+pub fn sum_prefix(table: &mut [u32]) -> u32 {
+    let n = entry_variables(table);
+    unsafe { reference_sum_prefix(table.as_mut_ptr(), n) }
+}
+
+/// Of a table of elements, at least two.
+fn entry_variables(table: &[u32]) -> c_int {
+    let entries = elements(table) as u32;
+    assert!(entries.is_power_of_two() && entries > 1);
+    entries.ilog2() as c_int
+}
+
+pub fn accumulate(
+    point: &[u32],
+    scale: &[u32; 4],
+    given: &[u32; 4],
+    work: &mut [u32],
+    out: &mut [u32],
+) -> u32 {
+    let k = elements(point);
+    assert!(out.len() == 4 << k && work.len() == work_words(k));
+    unsafe {
+        reference_accumulate(
+            point.as_ptr(),
+            k,
+            scale.as_ptr(),
+            given.as_ptr(),
+            work.as_mut_ptr(),
+            out.as_mut_ptr(),
+        )
+    }
+}
+
+/// The words of both tables of a point.
+fn work_words(k: c_int) -> usize {
+    4 * ((1 << (k / 2)) + (1 << (k - k / 2)))
+}
+
 pub fn compress_suffix(table: &[u32], point: &[u32], scale: &[u32; 4], out: &mut [u32]) -> u32 {
     let k = elements(point);
     let n = variables(table, k, out);
@@ -92,7 +152,7 @@ pub fn compress_prefix(
 ) -> u32 {
     let k = elements(point);
     let n = variables(table, k, out);
-    assert!(k >= 3 && work.len() == 4 * ((1 << (k / 2)) + (1 << (k - k / 2))));
+    assert!(k >= 3 && work.len() == work_words(k));
     unsafe {
         reference_compress_prefix(
             table.as_ptr(),

@@ -11,27 +11,32 @@ use crate::side::{Side, Words};
 
 type Fix = fn(&[u32], &mut [u32], &mut [u32]) -> u32;
 type RustFix = fn(&mut Poly<Element>, Element);
+type FixByHand = fn(&mut [u32]) -> u32;
 
-const FIXING: [(&str, Fix, RustFix); 4] = [
+const FIXING: [(&str, Fix, RustFix, Option<FixByHand>); 4] = [
     (
         "fix_prefix_var_mut",
         host::fix_prefix_var_mut,
         |table, r| table.fix_prefix_var_mut(r),
+        Some(|table| reference::fix_prefix(table, &SCALE)),
     ),
     (
         "fix_suffix_var_mut",
         host::fix_suffix_var_mut,
         |table, r| table.fix_suffix_var_mut(r),
+        None,
     ),
     (
         "fix_prefix_var_mut_monomial",
         host::fix_prefix_var_mut_monomial,
         |table, r| table.fix_prefix_var_mut_monomial(r),
+        None,
     ),
     (
         "sum_prefix_var_mut",
         |_, table, out| host::sum_prefix_var_mut(table, out),
         |table, _| table.sum_prefix_var_mut(),
+        Some(reference::sum_prefix),
     ),
 ];
 
@@ -41,8 +46,12 @@ pub fn run(bench: &mut Bench, input: &Input) {
     bench.case("Poly::eval_base", n, k(), || eval_base(input, n));
     bench.case("Poly::eval_ext", n, k(), || eval_ext(input, n));
     bench.case("Poly::eval_next_base", n, k(), || eval_next_base(input, n));
-    for (name, ours, rust) in FIXING {
-        bench.case(name, n, String::new(), || fix(input, n, ours, rust));
+    for (name, ours, rust, by_hand) in FIXING {
+        bench.case(name, n, String::new(), || {
+            let mut sides = fix(input, n, ours, rust);
+            sides.extend(by_hand.map(|by_hand| fix_by_hand(input, n, by_hand)));
+            sides
+        });
     }
 }
 
@@ -61,6 +70,7 @@ fn eval_ext(input: &Input, n: usize) -> Vec<Side<'_>> {
     vec![
         Side::given(Rust, move || table.eval_ext::<Base>(&point)),
         Side::lent(Ours, 4, |out| host::poly_eval_ext(words, coordinates, out)),
+        Side::lent(C, 4, |out| reference::eval_ext(words, coordinates, out)),
     ]
 }
 
@@ -91,4 +101,14 @@ fn fix(input: &Input, n: usize, ours: Fix, rust: RustFix) -> Vec<Side<'_>> {
             clock.leaves(|| words[..4 * count[0] as usize].to_vec());
         }),
     ]
+}
+
+fn fix_by_hand(input: &Input, n: usize, fix: FixByHand) -> Side<'_> {
+    let entries = input.entries(n);
+    let mut words = entries.to_vec();
+    Side::new(C, move |clock| {
+        words.copy_from_slice(entries);
+        assert_eq!(clock.once(|| fix(&mut words)), 0);
+        clock.leaves(|| words[..entries.len() / 2].to_vec());
+    })
 }

@@ -14,7 +14,7 @@ returns c =
       read-as _ (sub2 .sub2 .ensures),
       read-as _ (sub .sub .ensures),
       read-as _ (double .double .ensures),
-      read-as _ (double .before .mul .ensures),
+      read-as _ (double .before .pre .product),
       read-as _ (one .one .ensures),
     ) at (c .add .ensures)
 
@@ -22,7 +22,6 @@ pub agree-spec : {M : Type 1} → statement M
 agree-spec =
     tie.close
     (tie.spec
-    (λ c κs. search needs)
     (λ c κs. search needs)
     (λ c κs. search needs)
     (λ c κs. search needs)

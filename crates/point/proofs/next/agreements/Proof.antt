@@ -18,11 +18,11 @@ loop-holds c = agreed-start _ _ _ (c .one .ensures)
 loop-again : tie.Need-loop-again Inv-loop μ-loop
 loop-again c =
     let agree = c .before in
-    let read2 = agree .before in
+    let read2 = agree .before .before in
     let read = read2 .before in
     let test = read .before in
     agreed-turn _ _ _ _ (test .loop-test .taken) (read .read .ensures) (read2 .read2 .ensures) (test .before .loop .inv)
-    (agree .agree .ensures) (c .mul .ensures)
+    (agree .agree .ensures) (c .mul2 .ensures)
 
 returns : tie.Need-returns Inv-loop μ-loop
 returns c =
@@ -38,6 +38,7 @@ agreements-spec =
     (search needs)
     loop-holds
     (search needs)
+    (λ c κs. search needs)
     (λ c κs. search needs)
     (λ c κs. search needs)
     (λ c κs. search needs)

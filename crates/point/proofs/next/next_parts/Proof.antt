@@ -19,11 +19,12 @@ loop-again : tie.Need-loop-again Inv-loop μ-loop
 loop-again c =
     let carry = c .before in
     let done = carry .before in
-    let read2 = done .before in
+    let mul = done .before in
+    let read2 = mul .before in
     let read = read2 .before in
     let test = read .before in
     next-turn _ _ _ _ (test .loop-test .taken) (read .read .ensures) (read2 .read2 .ensures) (test .before .loop .inv)
-    (done .done-step .ensures) (carry .carry-step .ensures) (c .omega-step .ensures)
+    (mul .mul .ensures) (done .done-step .ensures) (carry .carry-step .ensures) (c .mul2 .ensures)
 
 returns : tie.Need-returns Inv-loop μ-loop
 returns c =
@@ -42,6 +43,7 @@ next-parts-spec =
     (search needs)
     loop-holds
     (search needs)
+    (λ c κs. search needs)
     (λ c κs. search needs)
     (λ c κs. search needs)
     (λ c κs. search needs)

@@ -1,5 +1,5 @@
 -- `split_eq::fold::by_places` meets its contract: place by place. Assumes nothing.
-use mathlib.Core.Path.{_≡_, sym}
+use mathlib.Core.Path.{_≡_}
 use Prim.Native.Nat.{_+_, _-_, _*_, _≤_}
 use native.Mathlib.Omega.{arith}
 use borrow.Author.Needs.{needs}
@@ -98,7 +98,7 @@ by-places-spec =
     ordered
     ordered
     fits
-    (λ c. sym (at (c .before .before) .before .block-of .ensures .size))
+    (λ c. search needs)
     part-requires
     put-requires
     (search needs)

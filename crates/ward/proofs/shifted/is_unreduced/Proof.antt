@@ -1,54 +1,43 @@
--- `ward::shifted::is_unreduced` meets its contract: what is left of the words decides. Assumes nothing.
+-- `ward::shifted::is_unreduced` meets its contract: a word was found, or what is left of the words decides. Assumes nothing.
 use mathlib.Core.Path.{_≡_, refl, sym, _∙_}
-use mathlib.Core.List.{List}
-use Prim.Native.Nat.{ℕ, _-_, _/_, _≤_, _<_}
+use mathlib.Core.Bool.{_||_}
+use Prim.Native.Nat.{_-_, _/_, _≤_, _<_}
 use native.Mathlib.Omega.{arith}
 use borrow.Author.Needs.{needs}
 use lib.ListN.{length, getD, drop}
 use Rattle.octets.specs.Octets.{words}
 use Rattle.octets.proofs.Octets.{words-length, words-at}
 use Rattle.algebra.specs.Words.{unreduced}
-use Rattle.algebra.proofs.Words.{found, passed, ended}
+use Rattle.algebra.proofs.Words.{onward, ended, or-false}
 use Rattle.field.specs.Field.{p}
 use Rattle.ward.proofs.shifted.is_unreduced.Statement.{statement}
 use Rattle.ward.proofs.shifted.is_unreduced.Tie as tie
 
 abbrev Inv-loop : tie.InvT-loop
-Inv-loop bytes i₀ i-end i = (i ≤ length (words bytes)) × (unreduced p (words bytes) ≡ unreduced p (drop i (words bytes)))
+Inv-loop bytes found₀ i₀ i-end found i =
+    (i-end ≡ length bytes / 4) × (i ≤ length (words bytes)) × (unreduced p (words bytes) ≡ found || unreduced p (drop i (words bytes)))
 
 abbrev μ-loop : tie.MeasureT-loop
-μ-loop bytes i₀ i-end i = length bytes / 4 - i
-
--- the word that was read
-module _ (word : tie.After-word-at Inv-loop μ-loop) where
-  abbrev at : tie.At-loop Inv-loop μ-loop
-  at = word .before .before
-
-  abbrev bs : List ℕ
-  bs = at .before .before .args .bytes .now
-
-  there : at .loop .i < length (words bs)
-  there = omega (arith, word .before .loop-test .taken, words-length bs)
-
-  read : word .word-at .result ≡ getD (words bs) (at .loop .i) 0
-  read = word .word-at .ensures ∙ sym (words-at bs (at .loop .i) (word .before .loop-test .taken))
-
-returns : tie.Need-returns Inv-loop μ-loop
-returns c =
-    let word = c .before in
-    sym (at word .loop .inv .1 ∙ found p _ _ (there word) (omega (arith, read word, c .if1 .taken)))
+μ-loop bytes found₀ i₀ i-end found i = i-end - i
 
 loop-again : tie.Need-loop-again Inv-loop μ-loop
 loop-again c =
     let word = c .before in
-    (omega (arith, there word), at word .loop .inv .1 ∙ passed p _ _ (there word) (omega (arith, read word, c .if1 .left)))
+    let taken = word .before in
+    let at = taken .before in
+    let bs = at .before .before .args .bytes .now in
+    let there : at .loop .i < length (words bs) = omega (arith, taken .loop-test .taken, words-length bs) in
+    let read : word .word-at .result ≡ getD (words bs) (at .loop .i) 0 =
+    word .word-at .ensures ∙ sym (words-at bs (at .loop .i) (omega (arith, taken .loop-test .taken)))
+    in
+    (at .loop .inv .0, omega (arith, there), at .loop .inv .2 ∙ rw (c .or-above .ensures, read) (onward p (words bs) (at .loop .i) there (at .loop .found)))
 
-returns-2 : tie.Need-returns-2 Inv-loop μ-loop
-returns-2 c =
+returns : tie.Need-returns Inv-loop μ-loop
+returns c =
     let at = c .before in
     let bs = at .before .before .args .bytes .now in
     let e : at .loop .i ≡ length (words bs) = omega (arith, words-length bs) in
-    sym (at .loop .inv .1 ∙ ended p _ _ e)
+    sym (at .loop .inv .2 ∙ rw (ended p (words bs) (at .loop .i) e) (or-false (at .loop .found)))
 
 pub is-unreduced-spec : {M : Type 1} → statement M
 is-unreduced-spec =
@@ -56,10 +45,10 @@ is-unreduced-spec =
     (tie.spec
     Inv-loop
     μ-loop
-    (λ c. (omega arith, refl))
+    (λ c. (refl, omega arith, refl))
     (λ c κs. omega arith)
-    returns
+    (search needs)
     (search needs)
     (search needs)
     loop-again
-    returns-2)
+    returns)
