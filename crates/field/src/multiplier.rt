@@ -51,9 +51,18 @@ impl Multiplier {
         }
     }
 
+    // x r.
     pub fn times(self, x: Element) -> Element
         requires { ⌜ Ready self × Reduced x ⌝ }
         ensures { λ y. ⌜ Holds y (field .mul (fromWords x) (fromWords (self .r))) ⌝ }
+    {
+        self.plus(Element::zero(), x)
+    }
+
+    // old + x r: the sum costs no division of its own.
+    pub fn plus(self, old: Element, x: Element) -> Element
+        requires { ⌜ Ready self × Reduced x ⌝ }
+        ensures { λ y. ⌜ Holds y (field .add (fromWords old) (field .mul (fromWords x) (fromWords (self .r)))) ⌝ }
     {
         let s0 = word::add(x.c[0], x.c[2]);
         let s1 = word::add(x.c[1], x.c[3]);
@@ -61,10 +70,10 @@ impl Multiplier {
         let p1 = pair(s0, self.a2, s1, self.a0);
         Element {
             c: [
-                row(p0, x.c[2], self.b0, x.c[3], self.b1),
-                row(p1, x.c[2], self.b2, x.c[3], self.b0),
-                row(p0, x.c[0], self.c0, x.c[1], self.c1),
-                row(p1, x.c[0], self.c2, x.c[1], self.c0),
+                row(old.c[0], p0, x.c[2], self.b0, x.c[3], self.b1),
+                row(old.c[1], p1, x.c[2], self.b2, x.c[3], self.b0),
+                row(old.c[2], p0, x.c[0], self.c0, x.c[1], self.c1),
+                row(old.c[3], p1, x.c[0], self.c2, x.c[1], self.c0),
             ],
         }
     }
@@ -78,10 +87,10 @@ fn pair(x: u32, a: u32, y: u32, b: u32) -> u64
     word::wide(x, a) + word::wide(y, b)
 }
 
-// A coordinate: what it shares, and two products more. A u64 holds the four.
-fn row(shared: u64, x: u32, a: u32, y: u32, b: u32) -> u32
+// A coordinate: what it was, what it shares, and two products more. A u64 holds a word and four products.
+fn row(old: u32, shared: u64, x: u32, a: u32, y: u32, b: u32) -> u32
     requires { ⌜ (shared ≤ 2 * ((p - 1) * (p - 1))) × (((x < p) × (a < p)) × ((y < p) × (b < p))) ⌝ }
-    ensures { λ r. ⌜ r ≡ (shared + x * a + y * b) % p ⌝ }
+    ensures { λ r. ⌜ r ≡ (old + (shared + x * a + y * b)) % p ⌝ }
 {
-    word::residue(shared + word::wide(x, a) + word::wide(y, b))
+    word::residue((old as u64) + (shared + word::wide(x, a) + word::wide(y, b)))
 }

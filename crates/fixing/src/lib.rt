@@ -249,7 +249,7 @@ fn line(a0: Element, a1: Element, m: Multiplier) -> Element
     requires { ⌜ (Reduced a0 × Reduced a1) × Ready m ⌝ }
     ensures { λ x. ⌜ Holds x (combined Prefix (fromWords a0) (fromWords a1) (fromWords (m .r))) ⌝ }
 {
-    a0.add(m.times(a1.sub(a0)))
+    m.plus(a0, a1.sub(a0))
 }
 
 // a0 + a1 r.
@@ -257,5 +257,5 @@ fn monomial(a0: Element, a1: Element, m: Multiplier) -> Element
     requires { ⌜ (Reduced a0 × Reduced a1) × Ready m ⌝ }
     ensures { λ x. ⌜ Holds x (combined Monomial (fromWords a0) (fromWords a1) (fromWords (m .r))) ⌝ }
 {
-    a0.add(m.times(a1))
+    m.plus(a0, a1)
 }

@@ -153,8 +153,8 @@ fn gain_table(work: &[u32], first: usize, n: usize, seed: Element, from: usize, 
 {
     let m = Multiplier::new(seed);
     for i in 0..n {
-        let gain = m.times(table::read(work, first + i));
-        let sum = table::read(out, from + i).add(gain);
+        let e = table::read(work, first + i);
+        let sum = m.plus(table::get(out, from + i), e);
         table::put(out, from + i, sum);
     }
 }

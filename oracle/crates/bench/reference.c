@@ -15,6 +15,7 @@ typedef struct {
     uint32_t c[4];
 } element;
 
+static const element zero = {{0, 0, 0, 0}};
 static const element one = {{1, 0, 0, 0}};
 
 static inline uint32_t word_plus(uint32_t a, uint32_t b) {
@@ -104,16 +105,16 @@ static inline multiplier ready(element r) {
     return m;
 }
 
-/* Twelve products of words and four `%`. */
-static inline element times(multiplier m, element x) {
+/* old + x r: twelve products of words and four `%`. */
+static inline element gained(multiplier m, element old, element x) {
     uint64_t x0 = x.c[0], x1 = x.c[1], x2 = x.c[2], x3 = x.c[3];
     uint64_t s0 = word_plus(x.c[0], x.c[2]), s1 = word_plus(x.c[1], x.c[3]);
     uint64_t p0 = s0 * m.a[0] + s1 * m.a[1], p1 = s0 * m.a[2] + s1 * m.a[0];
     element out = {{
-        (uint32_t)((p0 + x2 * m.b[0] + x3 * m.b[1]) % P),
-        (uint32_t)((p1 + x2 * m.b[2] + x3 * m.b[0]) % P),
-        (uint32_t)((p0 + x0 * m.c[0] + x1 * m.c[1]) % P),
-        (uint32_t)((p1 + x0 * m.c[2] + x1 * m.c[0]) % P),
+        (uint32_t)((old.c[0] + p0 + x2 * m.b[0] + x3 * m.b[1]) % P),
+        (uint32_t)((old.c[1] + p1 + x2 * m.b[2] + x3 * m.b[0]) % P),
+        (uint32_t)((old.c[2] + p0 + x0 * m.c[0] + x1 * m.c[1]) % P),
+        (uint32_t)((old.c[3] + p1 + x0 * m.c[2] + x1 * m.c[0]) % P),
     }};
     return out;
 }
@@ -148,7 +149,7 @@ static void fill(element *out, const element *point, int k, element scale) {
         size_t n = (size_t)1 << j;
         multiplier c = ready(point[k - 1 - j]);
         for (size_t i = 0; i < n; i++) {
-            element high = times(c, out[i]);
+            element high = gained(c, zero, out[i]);
             out[n + i] = high;
             out[i] = minus(out[i], high);
         }
@@ -302,7 +303,7 @@ uint32_t reference_fix_prefix(element *table, int n, const element *r) {
     size_t half = (size_t)1 << (n - 1);
     multiplier m = ready(*r);
     for (size_t i = 0; i < half; i++) {
-        table[i] = plus(table[i], times(m, minus(table[half + i], table[i])));
+        table[i] = gained(m, table[i], minus(table[half + i], table[i]));
     }
     return 0;
 }
@@ -333,7 +334,7 @@ uint32_t reference_accumulate(const element *point, int k, const element *scale,
     for (size_t h = 0; h < n0; h++) {
         multiplier m = ready(product(*given, work[h]));
         for (size_t i = 0; i < n1; i++) {
-            out[h * n1 + i] = plus(out[h * n1 + i], times(m, eq1[i]));
+            out[h * n1 + i] = gained(m, out[h * n1 + i], eq1[i]);
         }
     }
     return 0;

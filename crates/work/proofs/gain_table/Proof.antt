@@ -33,40 +33,37 @@ module _ (test : tie.In-loop Inv-loop μ-loop) where
 read-requires : tie.Need-read-requires Inv-loop μ-loop
 read-requires c κs = let is = begin c .pre .0 in (omega (arith, is .there), is .work-below)
 
-times-requires : tie.Need-times-requires Inv-loop μ-loop
-times-requires c κs = (new (c .before) .new .ensures .1, c .read .ensures .below)
+add-get : tie.Need-add-get Inv-loop μ-loop
+add-get c = search needs
 
-add-read-2 : tie.Need-add-read-2 Inv-loop μ-loop
-add-read-2 c = search needs
+get-requires : tie.Need-get-requires Inv-loop μ-loop
+get-requires c κs =
+    let test = c .before .before in
+    omega (arith, begin test .pre .0 .room, test .before .loop .inv .1 .len)
 
-read-requires-2 : tie.Need-read-requires-2 Inv-loop μ-loop
-read-requires-2 c κs =
-    let test = c .before .before .before in
-    let is = begin test .pre .0 in
-    let d = test .before .loop .inv .1 in
-    (omega (arith, is .room, d .len), d .below (is .out-below))
-
-add-requires : tie.Need-add-requires Inv-loop μ-loop
-add-requires c κs = (c .read2 .ensures .below, c .before .before .times .ensures .below)
+plus-requires : tie.Need-plus-requires Inv-loop μ-loop
+plus-requires c κs =
+    let read = c .before .before in
+    (new (read .before) .new .ensures .1, read .read .ensures .below)
 
 -- the place is written as it was read
 add-put : tie.Need-add-put Inv-loop μ-loop
-add-put c = add-read-2 (c .before .before .before)
+add-put c = add-get (c .before .before .before)
 
 loop-again : tie.Need-loop-again Inv-loop μ-loop
 loop-again c =
     let put = c .before .before in
-    let add = put .before .before in
-    let read2 = add .before in
-    let times = read2 .before .before in
-    let test = times .before .before in
+    let plus = put .before .before in
+    let get = plus .before in
+    let read = get .before .before in
+    let test = read .before in
     let r = fromWords (new test .new .result .r) in
     let args = begin test .args in
     let fits : 4 * (args .from + test .before .loop .i) + 3 < length (args .out .now) = omega (arith, begin test .pre .0 .room) in (
       omega arith,
-      turn _ _ _ _ _ (test .before .loop .inv .1) fits _ refl _ _ (read-as _ (read2 .read2 .ensures))
-          (read-as _ (times .times .ensures) ∙ ap (λ x. field .mul x r) (read-as _ (times .before .read .ensures)) ∙ field-ring .mul-comm _ r)
-          (add .add .ensures) (put .put .ensures),
+      turn _ _ _ _ _ (test .before .loop .inv .1) fits _ refl _ _ (ap fromWords (get .get .ensures))
+          (ap (λ x. field .mul x r) (read-as _ (read .read .ensures)) ∙ field-ring .mul-comm _ r)
+          (plus .plus .ensures) (put .put .ensures),
     )
 
 returns : tie.Need-returns Inv-loop μ-loop
@@ -85,10 +82,9 @@ gain-table-spec =
     loop-holds
     (search needs)
     read-requires
-    times-requires
-    add-read-2
-    read-requires-2
-    add-requires
+    add-get
+    get-requires
+    plus-requires
     add-put
     (search needs)
     (search needs)
