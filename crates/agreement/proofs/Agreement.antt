@@ -12,7 +12,6 @@ use Rattle.field.specs.Field.{field, base, fromWords}
 use Rattle.field.proofs.Laws.{field-ring}
 use Rattle.table.specs.Table.{tableWords, elementAt, entries, pointOf}
 use Rattle.table.specs.Refusals.{leaves}
-use Rattle.table.specs.declared.Verdict.the-variants.{Accepted}
 use Rattle.table.proofs.Laws.{table-at, elements-length}
 use Rattle.point.specs.Point.{tableAnswer}
 use Rattle.poly.specs.Poly.{nextOut}
@@ -25,9 +24,10 @@ use Rattle.session.proofs.Ledgers.{places-there}
 use Rattle.session.proofs.Whole.{out-is}
 use Rattle.session.proofs.Demand3.{element-is}
 use Rattle.agreement.specs.Agreement.{Agreement}
+use Rattle.agreement.proofs.NextTable.{next-words}
 
 -- out of an accepted fold, with as many places as `inner`
-fold-leaves : (a : Args) (ws work out : List ℕ) (inner : ℕ) → foldAnswer ws (a .point) (a .scale) work out ≡ Accepted
+fold-leaves : (a : Args) (ws work out : List ℕ) (inner : ℕ) → foldAnswer ws (a .point) (a .scale) work out ≡ 0
     → inner ≡ 2 ^ remains ws (a .point)
     → tableWords inner (foldAt field (a .side) (a .weight) inner (pointOf (a .point)) (fromWords (a .scale)) (baseAt ws))
     ≡ foldOut (a .side) (a .weight) ws (a .point) (a .scale) work out
@@ -40,8 +40,8 @@ fold-leaves a ws work out inner g q =
     (foldAt field (a .side) (a .weight) (2 ^ remains ws (a .point)) (pointOf (a .point)) (fromWords (a .scale)) (baseAt ws))) out)
     (sym g)
 
-as-in-one-call : (a : Args) (out : List ℕ) (cs : List Call) (work out′ : List ℕ) → length out′ ≡ length out → openAnswer a out ≡ Accepted
-    → foldAnswer (joined cs (answers a out cs)) (a .point) (a .scale) work out′ ≡ Accepted
+as-in-one-call : (a : Args) (out : List ℕ) (cs : List Call) (work out′ : List ℕ) → length out′ ≡ length out → openAnswer a out ≡ 0
+    → foldAnswer (joined cs (answers a out cs)) (a .point) (a .scale) work out′ ≡ 0
     → after a out cs .out ≡ foldOut (a .side) (a .weight) (joined cs (answers a out cs)) (a .point) (a .scale) work out′
 as-in-one-call a out cs work out′ l h g =
     let ws = joined cs (answers a out cs) in
@@ -50,14 +50,14 @@ as-in-one-call a out cs work out′ l h g =
     ∙ fold-leaves a ws work out′ (innerOf a) g (sym (places-there a out h) ∙ ap (λ n. n / 4) (sym l) ∙ t .rows)
 
 -- row y of the next table
-next-row : (point table : List ℕ) → tableAnswer point table ≡ Accepted → (y : ℕ) → y < 2 ^ entries point
+next-row : (point table : List ℕ) → tableAnswer point table ≡ 0 → (y : ℕ) → y < 2 ^ entries point
     → nextAt field (pointOf point) y ≡ elementAt (nextOut point table) y
 unfolding nextOut
 next-row point table h y b =
     sym (table-at (2 ^ entries point) (nextAt field (pointOf point)) y b)
     ∙ ap (λ v. elementAt (leaves v (tableWords (2 ^ entries point) (nextAt field (pointOf point))) table) y) (sym h)
 
-against-next : (a : Args) (ws table : List ℕ) → a .weight ≡ Next → tableAnswer (a .point) table ≡ Accepted → (i : ℕ)
+against-next : (a : Args) (ws table : List ℕ) → a .weight ≡ Next → tableAnswer (a .point) table ≡ 0 → (i : ℕ)
     → ledgerAt a ws i
     ≡ sumTo field (2 ^ entries (a .point))
     (λ y. field .mul (field .mul (fromWords (a .scale)) (elementAt (nextOut (a .point) table) y))
@@ -84,4 +84,5 @@ agreement =
     record {
       one-call = as-in-one-call;
       next = λ a out cs table e h t i b. element-is a out h cs i b ∙ against-next a (joined cs (answers a out cs)) table e t i;
+      next-table = next-words;
     }

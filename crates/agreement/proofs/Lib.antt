@@ -1,1 +1,2 @@
+mod NextTable
 pub mod Agreement

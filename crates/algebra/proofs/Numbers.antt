@@ -7,7 +7,7 @@ use Rattle.algebra.specs.Residue.{Residue, reduce, residues}
 use Rattle.algebra.specs.Quartic.{Quartic, quartic, constant}
 use Rattle.algebra.specs.Words.{numbers}
 use Rattle.algebra.proofs.Residues.{residue-ring, reduce-val, reduce-add, reduce-mul, reduce-mod, reduce-neg}
-use Rattle.algebra.proofs.Quartics.{mul-constant, mul-halves}
+use Rattle.algebra.proofs.Quartics.{mul-constant, mul-halves, mul-rows}
 
 module _ (m : ℕ) (pos : 0 < m) where
   pub numbers-again : (x : Quartic (Residue m)) → numbers m pos (x .x₀ .val) (x .x₁ .val) (x .x₂ .val) (x .x₃ .val) ≡ x
@@ -66,6 +66,16 @@ module _ (m : ℕ) (pos : 0 < m) where
     numbers-halves =
         simp (reduce-add m pos, reduce-mul m pos, reduce-mod m pos, reduce-neg m pos)
         (mul-halves (residue-ring m pos) (reduce m pos w) (numbers m pos a0 a1 a2 a3) (numbers m pos b0 b1 b2 b3))
+
+    -- by rows: what comes back is multiplied by w, and reduced, before
+    pub numbers-rows : numbers m pos (a0 * b0 + a1 * by w b3 + a2 * by w b2 + a3 * by w b1) (a0 * b1 + a1 * b0 + a2 * by w b3 + a3 * by w b2)
+        (a0 * b2 + a1 * b1 + a2 * b0 + a3 * by w b3)
+        (a0 * b3 + a1 * b2 + a2 * b1 + a3 * b0)
+        ≡ K .mul (numbers m pos a0 a1 a2 a3) (numbers m pos b0 b1 b2 b3)
+    unfolding numbers
+    numbers-rows =
+        simp (reduce-add m pos, reduce-mul m pos, reduce-mod m pos)
+        (mul-rows (residue-ring m pos) (reduce m pos w) (numbers m pos a0 a1 a2 a3) (numbers m pos b0 b1 b2 b3))
 
   -- seven coefficients, those of 1 to X⁶: what stands at X⁴, X⁵ and X⁶ comes back at 1, X and X², times w
   module _ (w : ℕ) where

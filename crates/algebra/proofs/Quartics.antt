@@ -1,5 +1,5 @@
 -- The quartic extension of a commutative ring is one. Assumes nothing.
-use mathlib.Core.Path.{_≡_, refl}
+use mathlib.Core.Path.{_≡_}
 use mathlib.Core.List.{List, [], _∷_}
 use lib.Dec.{T}
 use Rattle.algebra.specs.Ring.{Ops, CommRing, minus}
@@ -28,6 +28,24 @@ module _ {ℓ} {A : Type ℓ} (O : Ops A) (w : A) (a b : Quartic A) where
         x₁ = row (b .x₁) (b .x₀) (a .x₂) (minus O (b .x₃ ⊗ w) (b .x₁)) (a .x₃) (minus O (b .x₂ ⊗ w) (b .x₀));
         x₂ = row (b .x₀) (b .x₃ ⊗ w) (a .x₀) (minus O (b .x₂) (b .x₀)) (a .x₁) (minus O (b .x₁) (b .x₃ ⊗ w));
         x₃ = row (b .x₁) (b .x₀) (a .x₀) (minus O (b .x₃) (b .x₁)) (a .x₁) (minus O (b .x₂) (b .x₀));
+      }
+
+-- the product by rows: b, and b times w where it comes back
+module _ {ℓ} {A : Type ℓ} (O : Ops A) (w : A) (a b : Quartic A) where
+  open Ops O using (add as _⊕_, mul as _⊗_)
+
+  infixl 65 _⊕_
+  infixl 70 _⊗_
+  abbrev whole : A → A → A → A → A
+  whole c d e f = a .x₀ ⊗ c ⊕ a .x₁ ⊗ d ⊕ a .x₂ ⊗ e ⊕ a .x₃ ⊗ f
+
+  abbrev pub rows : Quartic A
+  rows =
+      record {
+        x₀ = whole (b .x₀) (b .x₃ ⊗ w) (b .x₂ ⊗ w) (b .x₁ ⊗ w);
+        x₁ = whole (b .x₁) (b .x₀) (b .x₃ ⊗ w) (b .x₂ ⊗ w);
+        x₂ = whole (b .x₂) (b .x₁) (b .x₀) (b .x₃ ⊗ w);
+        x₃ = whole (b .x₃) (b .x₂) (b .x₁) (b .x₀);
       }
 
 -- the general elements, as expressions
@@ -91,3 +109,7 @@ module _ {ℓ} {R : Type ℓ} {O : Ops R} (𝓡 : CommRing O) (w : R) where
   pub mul-halves : (a b : Quartic R) → halves O w a b ≡ quartic O w .mul a b
   unfolding quartic
   mul-halves a b = four a b a (halves expr-ops (var 0) A B) (QE .mul A B) tt tt tt tt
+
+  pub mul-rows : (a b : Quartic R) → rows O w a b ≡ quartic O w .mul a b
+  unfolding quartic
+  mul-rows a b = four a b a (rows expr-ops (var 0) A B) (QE .mul A B) tt tt tt tt

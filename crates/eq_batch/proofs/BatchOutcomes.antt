@@ -1,5 +1,5 @@
 -- Answer and out of a batch, by its scalars and the verdict on its tests. Assumes nothing.
-use mathlib.Core.Path.{_≡_, refl, sym, ap, _∙_}
+use mathlib.Core.Path.{_≡_, refl}
 use mathlib.Core.Bool.{Bool, true, false, cond}
 use mathlib.Core.Logic.{_≢_}
 use Prim.Native.Nat.{ℕ, _^_}
@@ -10,11 +10,12 @@ use borrow.Author.Tests.{eq-eqb, ne-eqb}
 use Rattle.algebra.specs.Ring.{Ops}
 use Rattle.field.specs.Field.{Ext, field}
 use Rattle.table.specs.Table.{elementAt, tableWords}
-use Rattle.table.specs.Refusals.{verdict, leaves}
+use Rattle.table.specs.Refusals.{answer, verdict, leaves}
 use Rattle.table.specs.declared.Refusal.{Refusal}
 use Rattle.table.specs.declared.Verdict.{Verdict}
 use Rattle.table.specs.declared.Verdict.the-variants.{Accepted, Refused}
 use Rattle.table.specs.Inner.{Gained}
+use Rattle.table.proofs.Outcomes.{leavesBy, both}
 use Rattle.table.proofs.Gaining.{gained-table, zeros-table}
 use Rattle.eq_batch.specs.Batch.{batchTests, batchAnswer, batchAt, setOut, addOut}
 use Rattle.eq_batch.proofs.Accepted.{Taken}
@@ -42,7 +43,7 @@ opened true n points scalars out = refl
 module _ (adding : Bool) (n : ℕ) (points scalars out : List ℕ) where
   -- v is answered, and w left
   abbrev Outcome : Verdict → List ℕ → Type 0
-  Outcome v w = (v ≡ batchAnswer adding n points scalars out) × (w ≡ outAfter adding n points scalars out)
+  Outcome v w = (answer v ≡ batchAnswer adding n points scalars out) × (w ≡ outAfter adding n points scalars out)
 
   pub no-scalars : length scalars ≡ 0 → Outcome Accepted out
   unfolding batchAnswer
@@ -50,25 +51,29 @@ module _ (adding : Bool) (n : ℕ) (points scalars out : List ℕ) where
       let z = eq-eqb (length scalars) 0 h in
       (rw z, rw (opened adding n points scalars out, z))
 
-  answered : {v : Verdict} {w : List ℕ} → length scalars ≢ 0 → v ≡ verdict (batchTests adding n points scalars out)
-      → w ≡ leaves v (newOut adding n points scalars out) out → Outcome v w
+  -- of the verdict u that the tests gave
+  answered : {u v : Verdict} {w : List ℕ} → length scalars ≢ 0 → u ≡ v → answer u ≡ verdict (batchTests adding n points scalars out)
+      → w ≡ leavesBy v (newOut adding n points scalars out) out → Outcome v w
   unfolding batchAnswer
-  answered h e l =
+  answered h e q l =
       let z = ne-eqb (length scalars) 0 h in
-      (rw z e, rw (opened adding n points scalars out, z) (l ∙ ap (λ u. leaves u (newOut adding n points scalars out) out) e))
+      let t = both (newOut adding n points scalars out) out e q l in
+      (rw z (t .0), rw (opened adding n points scalars out, z) (t .1))
 
-  -- a refusal keeps out: of the verdict u that the tests gave
-  pub refused : {r : Refusal} (u : Verdict) → length scalars ≢ 0 → u ≡ Refused r → u ≡ verdict (batchTests adding n points scalars out)
+  -- a refusal keeps out
+  pub refused : {r : Refusal} (u : Verdict) → length scalars ≢ 0 → u ≡ Refused r → answer u ≡ verdict (batchTests adding n points scalars out)
       → Outcome (Refused r) out
-  refused u h e₁ e₂ = answered h (sym e₁ ∙ e₂) refl
+  refused u h e q = answered h e q refl
 
 module _ (n : ℕ) (points scalars out : List ℕ) (h : length scalars ≢ 0) {w : List ℕ} where
   pub added : Taken true n points scalars out → Gained 0 (2 ^ n) (batchAt n points scalars) out w
-      → (Accepted ≡ batchAnswer true n points scalars out) × (w ≡ addOut n points scalars out)
-  added t d = answered true n points scalars out h (t .answer) (gained-table (2 ^ n) (batchAt n points scalars) out w d (t .size))
+      → (0 ≡ batchAnswer true n points scalars out) × (w ≡ addOut n points scalars out)
+  added t d =
+      answered true n points scalars out {u = Accepted} h refl (t .answer) (gained-table (2 ^ n) (batchAt n points scalars) out w d (t .size))
 
   pub becomes : {zeros : List ℕ} → Taken false n points scalars out → zeros ≡ replicate (length out) 0
       → Gained 0 (2 ^ n) (batchAt n points scalars) zeros w
-      → (Accepted ≡ batchAnswer false n points scalars out) × (w ≡ setOut n points scalars out)
+      → (0 ≡ batchAnswer false n points scalars out) × (w ≡ setOut n points scalars out)
   becomes t z d =
-      answered false n points scalars out h (t .answer) (zeros-table (2 ^ n) (length out) (t .size) z (batchAt n points scalars) w d)
+      answered false n points scalars out {u = Accepted} h refl (t .answer)
+      (zeros-table (2 ^ n) (length out) (t .size) z (batchAt n points scalars) w d)

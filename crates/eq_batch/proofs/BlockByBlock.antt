@@ -17,7 +17,7 @@ use Rattle.table.proofs.Laws.{elements-length}
 use Rattle.table.specs.Inner.{Gained}
 use Rattle.table.proofs.Parts.{elements-append}
 use Rattle.table.proofs.Gaining.{none, blocks}
-use Rattle.eq_batch.specs.Inner.{Room}
+use Rattle.eq_batch.specs.Inner.{Room, scaledAt}
 use Rattle.eq_batch.proofs.Rooms.{room-beyond}
 
 -- n coordinates cut before the last low: the rows of a block, and the number of blocks
@@ -37,13 +37,9 @@ module _ {n low rows end : ℕ} (cut : Cut n low rows end) where
   pub edge : (h : ℕ) → h < end → h * rows + rows ≤ 2 ^ n
   edge h b = omega (arith, whole, mul-le-mul-right rows b, suc-mul h rows)
 
--- the table of a point of n coordinates, scaled
-abbrev pub pointAt : List ℕ → ℕ → Element → ℕ → Ext
-pointAt point n scale y = field .mul (fromWords scale) (eqAt field (elements point 0 n) y)
-
 module _ (point : List ℕ) (n : ℕ) (scale : Element) where
-  pub start : (rows : ℕ) (ws : List ℕ) → Gained 0 (0 * rows) (pointAt point n scale) ws ws
-  start rows ws = rw zero-mul (none 0 (pointAt point n scale) ws)
+  pub start : (rows : ℕ) (ws : List ℕ) → Gained 0 (0 * rows) (scaledAt scale point 0 n) ws ws
+  start rows ws = rw zero-mul (none 0 (scaledAt scale point 0 n) ws)
 
   module _ {low rows end : ℕ} (cut : Cut n low rows end) where
     abbrev us : List Ext
@@ -62,25 +58,21 @@ module _ (point : List ℕ) (n : ℕ) (scale : Element) where
         let l : 2 ^ length vs ≡ 2 ^ low = ap (λ (k : ℕ). 2 ^ k) (elements-length point (n - low) low) in
         ap₂ (λ zs m. eqAt field zs (h * m + y)) parts (cut .rows-are ∙ sym l) ∙ eq-split field-ring us vs h y (rw l b)
 
-    -- what row y of a block gains
-    abbrev blockAt : Element → ℕ → Ext
-    blockAt seed y = field .mul (fromWords seed) (eqAt field vs y)
-
-    module _ (h : ℕ) (ws w : List ℕ) (d : Gained 0 (h * rows) (pointAt point n scale) ws w) (b : h < end) where
+    module _ (h : ℕ) (ws w : List ℕ) (d : Gained 0 (h * rows) (scaledAt scale point 0 n) ws w) (b : h < end) where
       pub room : Room 0 (2 ^ n) ws → Room (h * rows) (2 ^ low) w
       room r = room-beyond (h * rows) (2 ^ low) (2 ^ n) r d (omega (arith, edge cut h b, cut .rows-are))
 
       pub turn : (a seed : Element) {w′ : List ℕ} → Holds a (eqAt field us h) → Holds seed (field .mul (fromWords scale) (fromWords a))
-          → Gained (h * rows) (2 ^ low) (blockAt seed) w w′
-          → Gained 0 ((h + 1) * rows) (pointAt point n scale) ws w′
+          → Gained (h * rows) (2 ^ low) (scaledAt seed point (n - low) low) w w′
+          → Gained 0 ((h + 1) * rows) (scaledAt scale point 0 n) ws w′
       turn a seed {w′} e₁ e₂ e₃ =
           let s : (h + 1) * rows ≡ h * rows + 2 ^ low = omega (arith, suc-mul h rows, cut .rows-are) in
           rw s
-          (blocks 0 (h * rows) (2 ^ low) (blockAt seed) (pointAt point n scale) ws w w′ d (rw zero-add e₃)
+          (blocks 0 (h * rows) (2 ^ low) (scaledAt seed point (n - low) low) (scaledAt scale point 0 n) ws w w′ d (rw zero-add e₃)
           (λ y l.
           ap (λ x. field .mul x (eqAt field vs y)) (read-as _ e₂ ∙ ap (field .mul (fromWords scale)) (read-as _ e₁))
           ∙ field-ring .mul-assoc _ _ _ ∙ ap (field .mul (fromWords scale)) (sym (row h y l))))
 
-    pub finish : (h : ℕ) {ws w : List ℕ} → Gained 0 (h * rows) (pointAt point n scale) ws w → h ≡ end
-        → Gained 0 (2 ^ n) (pointAt point n scale) ws w
+    pub finish : (h : ℕ) {ws w : List ℕ} → Gained 0 (h * rows) (scaledAt scale point 0 n) ws w → h ≡ end
+        → Gained 0 (2 ^ n) (scaledAt scale point 0 n) ws w
     finish h d z = rw (z, whole cut) at d

@@ -7,17 +7,15 @@ use mathlib.Core.List.{List, _++_}
 use lib.ListN.{length, take, drop, length-append}
 use lib.Pow.{pow-mono}
 use lib.Seq.{length-take-le}
-use Rattle.algebra.specs.Ring.{Ops}
-use Rattle.field.specs.Field.{Ext, field, fromWords, Reduced}
+use Rattle.field.specs.Field.{Ext, fromWords, Reduced}
 use Rattle.field.specs.declared.Element.{Element}
 use Rattle.field.proofs.Laws.{read-back, reduced}
-use Rattle.multilinear.specs.Equality.{eqAt}
-use Rattle.table.specs.Table.{elementAt, elements, tableWords}
+use Rattle.table.specs.Table.{elementAt, tableWords}
 use Rattle.table.specs.Inner.{Gained}
 use Rattle.table.proofs.Laws.{table-get, table-length}
 use Rattle.table.proofs.Gaining.{gained-as}
 use Rattle.point.specs.Inner.{Coordinates, Follows}
-use Rattle.eq_batch.specs.Inner.{Room}
+use Rattle.eq_batch.specs.Inner.{Room, scaledAt}
 
 -- a table's elements, whatever follows it
 table-room : (n : ℕ) (f : ℕ → Ext) (r : List ℕ) → Room 0 n (tableWords n f ++ r)
@@ -35,8 +33,8 @@ fits-room low rows n few e size =
 
 module _ (point : List ℕ) (high low rows : ℕ) (e : rows ≡ 2 ^ low) (seed : Element) (room : List ℕ) where
   -- the table of the block
-  abbrev pub blockAt : ℕ → Ext
-  blockAt y = field .mul (fromWords seed) (eqAt field (elements point high low) y)
+  abbrev blockAt : ℕ → Ext
+  blockAt = scaledAt seed point high low
 
   pub ready : low ≤ 8 → length room ≡ 1024 → Coordinates (high + low) point → Reduced seed
       → Follows high low point seed (take (4 * rows) room)

@@ -1,6 +1,6 @@
 -- `eval_eq_batch` (document 01, "Beside these"; "Refused calls": Batch): n rows of w coordinates, column j a point. Assumes nothing.
 use Prim.Native.Nat.{ℕ, zero, suc, _+_, _*_, _^_}
-use mathlib.Core.Bool.{Bool, true, false, not, _||_, _&&_, cond}
+use mathlib.Core.Bool.{Bool, true, false, not, _&&_, cond}
 use mathlib.Core.List.{List, [], _∷_}
 use lib.Dec.{eqb, ltb}
 use lib.ListN.{length}
@@ -10,9 +10,6 @@ use Rattle.multilinear.specs.Beside.{evalBatch}
 use Rattle.field.specs.Field.{p, Ext, field}
 use Rattle.table.specs.Table.{tableWords, entries, elementAt}
 use Rattle.table.specs.Refusals.{Test, _gives_, verdict, leaves, most, splits, rowsDiffer}
-use Rattle.table.specs.declared.Refusal.the-variants.{Split, TooMany, Lengths, Unreduced}
-use Rattle.table.specs.declared.Verdict.{Verdict}
-use Rattle.table.specs.declared.Verdict.the-variants.{Accepted}
 
 -- 3: over 64 points
 abbrev pub mostPoints : ℕ
@@ -30,15 +27,21 @@ column ws n w j = columnFrom ws w j 0 n
 -- 1, 3 (also over 64 points), 4 (coordinates not n·w, or out not 2^n), 5 (out too when adding)
 abbrev pub batchTests : Bool → ℕ → List ℕ → List ℕ → List ℕ → List Test
 batchTests adding n points scalars out =
-    (splits points || splits scalars || splits out gives Split)
-    ∷ (ltb most n || ltb mostPoints (entries scalars) gives TooMany)
-    ∷ (not (eqb (entries points) (n * entries scalars)) || rowsDiffer out n gives Lengths)
-    ∷ (unreduced p points || unreduced p scalars || adding && unreduced p out gives Unreduced)
+    splits points gives 1
+    ∷ splits scalars gives 1
+    ∷ splits out gives 1
+    ∷ ltb most n gives 3
+    ∷ ltb mostPoints (entries scalars) gives 3
+    ∷ not (eqb (entries points) (n * entries scalars)) gives 4
+    ∷ rowsDiffer out n gives 4
+    ∷ unreduced p points gives 5
+    ∷ unreduced p scalars gives 5
+    ∷ (adding && unreduced p out) gives 5
     ∷ []
 
 -- "with no scalars accepted, nothing read, out kept"
-unfoldable pub batchAnswer : Bool → ℕ → List ℕ → List ℕ → List ℕ → Verdict
-batchAnswer adding n points scalars out = cond (eqb (length scalars) 0) Accepted (verdict (batchTests adding n points scalars out))
+unfoldable pub batchAnswer : Bool → ℕ → List ℕ → List ℕ → List ℕ → ℕ
+batchAnswer adding n points scalars out = cond (eqb (length scalars) 0) 0 (verdict (batchTests adding n points scalars out))
 
 -- the sum over the points of scalar j times eq of point j, at row y
 abbrev pub batchAt : ℕ → List ℕ → List ℕ → ℕ → Ext

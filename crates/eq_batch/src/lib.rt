@@ -12,16 +12,13 @@ ghost use mathlib.Core.Bool.{true, false, not, _&&_};
 ghost use Prim.Native.Nat.{_+_, _*_, _^_, _≤_};
 ghost use lib.Dec.{eqb};
 ghost use lib.ListN.{length, replicate};
-ghost use Rattle.algebra.specs.Ring.{Ops};
-ghost use Rattle.multilinear.specs.Equality.{eqAt};
-ghost use Rattle.multilinear.specs.Beside.{evalBatch};
-ghost use Rattle.field.specs.Field.{field, fromWords, Reduced};
-ghost use Rattle.table.specs.Table.{elementAt, elements};
-ghost use Rattle.table.specs.Refusals.{verdict};
+ghost use Rattle.field.specs.Field.{Reduced};
+ghost use Rattle.table.specs.Table.{elementAt};
+ghost use Rattle.table.specs.Refusals.{answer, verdict};
 ghost use Rattle.table.specs.Inner.{Gained};
 ghost use Rattle.point.specs.Inner.{Coordinates};
-ghost use Rattle.eq_batch.specs.Batch.{column, batchTests, batchAnswer, setOut, addOut};
-ghost use Rattle.eq_batch.specs.Inner.{Room, Points, Column, Gathered};
+ghost use Rattle.eq_batch.specs.Batch.{batchTests, batchAnswer, batchAt, setOut, addOut};
+ghost use Rattle.eq_batch.specs.Inner.{Room, Points, Column, Gathered, scaledAt};
 
 // The most points of a batch.
 pub const MOST_POINTS: usize = 64;
@@ -31,7 +28,7 @@ const BLOCK: usize = 8;
 
 // out becomes the sum.
 pub fn eval_eq_batch(n: usize, points: &[u32], scalars: &[u32], out: &mut [u32]) -> Verdict
-    ensures { λ r. ⌜ r ≡ batchAnswer false n (now (points .entry)) (now (scalars .entry)) (now (out .entry)) ⌝ }
+    ensures { λ r. ⌜ answer r ≡ batchAnswer false n (now (points .entry)) (now (scalars .entry)) (now (out .entry)) ⌝ }
     ensures { λ _. ⌜ now (out .exit) ≡ setOut n (now (points .entry)) (now (scalars .entry)) (now (out .entry)) ⌝ }
 {
     if scalars.len() == 0 {
@@ -42,7 +39,7 @@ pub fn eval_eq_batch(n: usize, points: &[u32], scalars: &[u32], out: &mut [u32])
         Verdict::Refused(refusal) => Verdict::Refused(refusal),
         Verdict::Accepted => {
             table::clear(out);
-            add_points(n, points, scalars, scalars.len() / 4, out);
+            add_points(n, points, scalars, out);
             Verdict::Accepted
         }
     }
@@ -50,7 +47,7 @@ pub fn eval_eq_batch(n: usize, points: &[u32], scalars: &[u32], out: &mut [u32])
 
 // out gains the sum.
 pub fn eval_eq_batch_add(n: usize, points: &[u32], scalars: &[u32], out: &mut [u32]) -> Verdict
-    ensures { λ r. ⌜ r ≡ batchAnswer true n (now (points .entry)) (now (scalars .entry)) (now (out .entry)) ⌝ }
+    ensures { λ r. ⌜ answer r ≡ batchAnswer true n (now (points .entry)) (now (scalars .entry)) (now (out .entry)) ⌝ }
     ensures { λ _. ⌜ now (out .exit) ≡ addOut n (now (points .entry)) (now (scalars .entry)) (now (out .entry)) ⌝ }
 {
     if scalars.len() == 0 {
@@ -60,30 +57,27 @@ pub fn eval_eq_batch_add(n: usize, points: &[u32], scalars: &[u32], out: &mut [u
     match tested {
         Verdict::Refused(refusal) => Verdict::Refused(refusal),
         Verdict::Accepted => {
-            add_points(n, points, scalars, scalars.len() / 4, out);
+            add_points(n, points, scalars, out);
             Verdict::Accepted
         }
     }
 }
 
 fn test_batch(adding: bool, n: usize, points: &[u32], scalars: &[u32], out: &[u32]) -> Verdict
-    ensures { λ r. ⌜ r ≡ verdict (batchTests adding n (now (points .entry)) (now (scalars .entry)) (now (out .entry))) ⌝ }
+    ensures { λ r. ⌜ answer r ≡ verdict (batchTests adding n (now (points .entry)) (now (scalars .entry)) (now (out .entry))) ⌝ }
 {
     let w = scalars.len() / 4;
-    let operands = table::either(table::splits(points), table::splits(scalars));
-    let split = table::either(operands, table::splits(out));
-    let many = table::either(table::MOST < n, MOST_POINTS < w);
-    let lengths = table::either(
-        is_no_product(points.len() / 4, n, w),
-        table::rows_differ(out, n),
-    );
-    let operands_unreduced = table::either(field::unreduced(points), field::unreduced(scalars));
-    let unreduced = table::either(operands_unreduced, both(adding, field::unreduced(out)));
     Verdict::Accepted
-        .refuse_if(split, Refusal::Split)
-        .refuse_if(many, Refusal::TooMany)
-        .refuse_if(lengths, Refusal::Lengths)
-        .refuse_if(unreduced, Refusal::Unreduced)
+        .refuse_if(table::splits(points), Refusal::Split)
+        .refuse_if(table::splits(scalars), Refusal::Split)
+        .refuse_if(table::splits(out), Refusal::Split)
+        .refuse_if(table::MOST < n, Refusal::TooMany)
+        .refuse_if(MOST_POINTS < w, Refusal::TooMany)
+        .refuse_if(is_no_product(points.len() / 4, n, w), Refusal::Lengths)
+        .refuse_if(table::rows_differ(out, n), Refusal::Lengths)
+        .refuse_if(field::unreduced(points), Refusal::Unreduced)
+        .refuse_if(field::unreduced(scalars), Refusal::Unreduced)
+        .refuse_if(both(adding, field::unreduced(out)), Refusal::Unreduced)
 }
 
 // count is not n w. The product is not formed: it may not fit.
@@ -105,11 +99,13 @@ fn both(a: bool, b: bool) -> bool
     if a { b } else { false }
 }
 
-// out gains the sum over the w points.
-fn add_points(n: usize, points: &[u32], scalars: &[u32], w: usize, out: &mut [u32])
-    requires { ⌜ Points n w (now points) (now scalars) × Room 0 (2 ^ n) (now out) ⌝ }
-    ensures { λ _. ⌜ Gained 0 (2 ^ n) (evalBatch field w (elementAt (now (scalars .entry))) (column (now (points .entry)) n w)) (now (out .entry)) (now (out .exit)) ⌝ }
+// out gains the sum over the points.
+fn add_points(n: usize, points: &[u32], scalars: &[u32], out: &mut [u32])
+    requires { ⌜ Points n (now points) (now scalars) × Room 0 (2 ^ n) (now out) ⌝ }
+    ensures { λ _. ⌜ Gained 0 (2 ^ n) (batchAt n (now (points .entry)) (now (scalars .entry)))
+        (now (out .entry)) (now (out .exit)) ⌝ }
 {
+    let w = scalars.len() / 4;
     for j in 0..w {
         let point = gather(points, n, w, j);
         add_point(&point, n, table::read(scalars, j), out);
@@ -138,7 +134,7 @@ fn room() -> [u32; 80]
 // out gains scale eq of the point of n coordinates, block by block: a block for each row of the first coordinates.
 fn add_point(point: &[u32], n: usize, scale: Element, out: &mut [u32])
     requires { ⌜ (Coordinates n (now point) × Reduced scale) × Room 0 (2 ^ n) (now out) ⌝ }
-    ensures { λ _. ⌜ Gained 0 (2 ^ n) (λ y. field .mul (fromWords scale) (eqAt field (elements (now (point .entry)) 0 n) y)) (now (out .entry)) (now (out .exit)) ⌝ }
+    ensures { λ _. ⌜ Gained 0 (2 ^ n) (scaledAt scale (now (point .entry)) 0 n) (now (out .entry)) (now (out .exit)) ⌝ }
 {
     let low = table::smaller(n, BLOCK);
     let high = n - low;
@@ -152,7 +148,7 @@ fn add_point(point: &[u32], n: usize, scale: Element, out: &mut [u32])
 // out gains, from place `from` on, seed eq of the low coordinates that follow the high ones.
 fn add_block(point: &[u32], high: usize, low: usize, seed: Element, from: usize, out: &mut [u32])
     requires { ⌜ (Coordinates (high + low) (now point) × Reduced seed) × ((low ≤ 8) × Room from (2 ^ low) (now out)) ⌝ }
-    ensures { λ _. ⌜ Gained from (2 ^ low) (λ y. field .mul (fromWords seed) (eqAt field (elements (now (point .entry)) high low) y)) (now (out .entry)) (now (out .exit)) ⌝ }
+    ensures { λ _. ⌜ Gained from (2 ^ low) (scaledAt seed (now (point .entry)) high low) (now (out .entry)) (now (out .exit)) ⌝ }
 {
     let rows = table::rows(low);
     let words = 4 * rows;

@@ -55,6 +55,3 @@ pub record Holds (e : Element) (x : Ext) : Type 0 where
 -- an element as an answer holds it
 unfoldable pub valueOf : Element → Value
 valueOf e = record { c0 = at e 0; c1 = at e 1; c2 = at e 2; c3 = at e 3 }
-
-abbrev pub toValue : Ext → Value
-toValue x = valueOf (toWords x)

@@ -11,7 +11,7 @@ use crate::word;
 ghost use mathlib.Core.Path.{_≡_};
 ghost use Prim.Native.Nat.{_+_, _-_, _*_, _<_, _≤_, _%_};
 ghost use Rattle.algebra.specs.Ring.{Ops};
-ghost use Rattle.field.specs.Field.{p, Reduced, field, fromWords, Holds};
+ghost use Rattle.field.specs.Field.{p, factor, at, Reduced, field, base, fromWords, Holds};
 ghost use Rattle.field.specs.Inner.{Ready};
 
 // The factor r, made ready.
@@ -93,4 +93,33 @@ fn row(old: u32, shared: u64, x: u32, a: u32, y: u32, b: u32) -> u32
     ensures { λ r. ⌜ r ≡ (old + (shared + x * a + y * b)) % p ⌝ }
 {
     word::residue((old as u64) + (shared + word::wide(x, a) + word::wide(y, b)))
+}
+
+// old + x r by the sixteen words of the first matrix: for a factor of which r and t are kept alone.
+pub fn plus_by(old: Element, x: Element, r: Element, t: Element) -> Element
+    requires { ⌜ (Reduced x × Reduced r) × Holds t (field .mul (fromWords r) (base factor)) ⌝ }
+    ensures { λ y. ⌜ Holds y (field .add (fromWords old) (field .mul (fromWords x) (fromWords r))) ⌝ }
+{
+    Element {
+        c: [
+            whole_row(old.c[0], x, r.c[0], t.c[3], t.c[2], t.c[1]),
+            whole_row(old.c[1], x, r.c[1], r.c[0], t.c[3], t.c[2]),
+            whole_row(old.c[2], x, r.c[2], r.c[1], r.c[0], t.c[3]),
+            whole_row(old.c[3], x, r.c[3], r.c[2], r.c[1], r.c[0]),
+        ],
+    }
+}
+
+// A coordinate: what it was, and a row of the matrix by x.
+fn whole_row(old: u32, x: Element, a: u32, b: u32, c: u32, d: u32) -> u32
+    requires { ⌜ Reduced x × (((a < p) × (b < p)) × ((c < p) × (d < p))) ⌝ }
+    ensures { λ r. ⌜ r ≡ (old + (at x 0 * a + at x 1 * b + at x 2 * c + at x 3 * d)) % p ⌝ }
+{
+    word::residue(
+        (old as u64)
+            + (word::wide(x.c[0], a)
+                + word::wide(x.c[1], b)
+                + word::wide(x.c[2], c)
+                + word::wide(x.c[3], d)),
+    )
 }

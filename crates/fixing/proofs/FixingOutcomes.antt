@@ -5,8 +5,7 @@ use mathlib.Core.Bool.{Bool, true, false, cond}
 use Prim.Native.Nat.{ℕ, zero, suc, _*_, _/_, _^_, _<_}
 use native.Mathlib.Nat.{pow-suc}
 use native.Mathlib.Omega.{arith}
-use mathlib.Core.List.{List}
-use lib.Dec.{eqb}
+use mathlib.Core.List.{List, [], _∷_}
 use lib.ListN.{length}
 use borrow.Author.Tests.{eqb-false, eq-eqb, ne-eqb}
 use Rattle.algebra.specs.Ring.{Ops}
@@ -14,20 +13,19 @@ use Rattle.algebra.specs.Words.{unreduced}
 use Rattle.field.specs.Field.{p, field, fromWords, Reduced}
 use Rattle.field.specs.declared.Element.{Element}
 use Rattle.table.specs.Table.{entries}
-use Rattle.table.specs.Refusals.{Test, _gives_, verdict, leaves, splits, notPower}
+use Rattle.table.specs.Refusals.{number, answer, Outcome, Test, _gives_, verdict, leaves, given, splits, notPower}
 use Rattle.table.specs.Inner.{refuseIf}
 use Rattle.table.specs.declared.Refusal.{Refusal}
-use Rattle.table.specs.declared.Refusal.the-variants.{Unreduced}
 use Rattle.table.specs.declared.Verdict.{Verdict}
 use Rattle.table.specs.declared.Verdict.the-variants.{Accepted, Refused}
-use Rattle.table.proofs.Tests.{whole, or-none}
+use Rattle.table.proofs.Tests.{whole}
 use Rattle.table.proofs.Powers.{power-of}
-use Rattle.table.proofs.Verdicts.{Clear, clear, one-more}
+use Rattle.table.proofs.Verdicts.{Clear, clear, stays, one-more}
+use Rattle.table.proofs.Outcomes.{given-none, given-all, left-as}
 use Rattle.fixing.specs.declared.Rule.{Rule}
 use Rattle.fixing.specs.declared.Rule.the-variants.{Sum}
-use Rattle.fixing.specs.declared.Remaining.{Remaining}
 use Rattle.fixing.specs.declared.Remaining.the-variants as remaining
-use Rattle.fixing.specs.Fixing.{fixTests, sumTests, fixedTable, remainingOf, fixAnswer, fixOut, sumAnswer, sumOut}
+use Rattle.fixing.specs.Fixing.{fixTests, sumTests, fixedTable, remainingOutcome, fixAnswer, fixOut, sumAnswer, sumOut}
 use Rattle.fixing.specs.Inner.{sizeTests, Sized, unlessUnreduced, TwoHalves, Halves}
 
 -- a power of two but 1 is even
@@ -43,60 +41,59 @@ module _ (ws : List ℕ) (b : length ws < 2 ^ 64) where
       let e : entries ws ≡ 2 * (entries ws / 2) = even (entries ws) _ (power-of (entries ws) (omega arith) n) h in
       record { few = omega arith; count = omega arith }
 
-  pub fix-tested : (r : Element) → Accepted ≡ verdict (fixTests ws r) → Halves (entries ws / 2) ws × Reduced r
+  pub fix-tested : (r : Element) → 0 ≡ verdict (fixTests ws r) → Halves (entries ws / 2) ws × Reduced r
   fix-tested r e =
-      let h : Clear (fixTests ws r) = clear (fixTests ws r) e in
-      let u : (unreduced p ws ≡ false) × (unreduced p (r .c) ≡ false) = or-none (unreduced p ws) (unreduced p (r .c)) (h .1 .1 .1 .0) in
-      let t : TwoHalves (entries ws / 2) ws = two-halves (h .0) (h .1 .0) (eqb-false (entries ws) 1 (h .1 .1 .1 .1 .0)) in
-      (record { table = t; below = u .0 }, record { words-below = u .1 })
+      let h : Clear (fixTests ws r) = clear (fixTests ws r) tt e in
+      let t : TwoHalves (entries ws / 2) ws = two-halves (h .0) (h .1 .0) (eqb-false (entries ws) 1 (h .1 .1 .1 .1 .1 .0)) in
+      (record { table = t; below = h .1 .1 .1 .0 }, record { words-below = h .1 .1 .1 .1 .0 })
 
   pub sum-sized : Sized ws → entries ws ≢ 1 → TwoHalves (entries ws / 2) ws
   sum-sized s =
-      let h : Clear (sizeTests ws) = clear (sizeTests ws) (s .accepted) in
+      let h : Clear (sizeTests ws) = clear (sizeTests ws) tt (s .accepted) in
       two-halves (h .0) (h .1 .0)
 
 -- answer and out, at once
-both : (n : ℕ) (new old : List ℕ) (v : Verdict) {a : Verdict} {w : List ℕ} → v ≡ a → w ≡ leaves v new old
-    → (remainingOf v n ≡ remainingOf a n) × (w ≡ leaves a new old)
-both n new old v e l = (ap (λ u. remainingOf u n) e, l ∙ ap (λ u. leaves u new old) e)
-
 module _ (rule : Rule) (ws : List ℕ) (r : Element) where
-  abbrev Fixed : Remaining → List ℕ → Type 0
+  abbrev Fixed : Outcome → List ℕ → Type 0
   Fixed x w = (x ≡ fixAnswer ws r) × (w ≡ fixOut rule ws r)
 
-  pub fix-refused : {x : Refusal} → Refused x ≡ verdict (fixTests ws r) → Fixed (remaining.Refused x) ws
+  pub fix-refused : {x : Refusal} {t : Verdict} → t ≡ Refused x → answer t ≡ verdict (fixTests ws r) → Fixed (remainingOutcome (remaining.Refused x)) ws
   unfolding fixAnswer fixOut
-  fix-refused e = both (entries ws / 2) _ ws _ e refl
+  fix-refused e h = (given-none _ e h, left-as _ ws e h refl)
 
-  pub fixed : {w : List ℕ} → Accepted ≡ verdict (fixTests ws r) → w ≡ fixedTable rule ws (fromWords r)
-      → Fixed (remaining.Entries (entries ws / 2)) w
+  pub fixed : {t : Verdict} {w : List ℕ} → t ≡ Accepted → answer t ≡ verdict (fixTests ws r) → w ≡ fixedTable rule ws (fromWords r)
+      → Fixed (remainingOutcome (remaining.Entries (entries ws / 2))) w
   unfolding fixAnswer fixOut
-  fixed e q = both (entries ws / 2) _ ws Accepted e q
+  fixed e h q = (given-all _ e h, left-as _ ws e h q)
 
 module _ (ws : List ℕ) where
-  abbrev Summed : Remaining → List ℕ → Type 0
+  abbrev Summed : Outcome → List ℕ → Type 0
   Summed x w = (x ≡ sumAnswer ws) × (w ≡ sumOut ws)
 
   -- 5, the last of the sum's tests
   abbrev last : Test
-  last = unreduced p ws gives Unreduced
+  last = unreduced p ws gives 5
 
-  pub sum-refused : {x : Refusal} → Refused x ≡ verdict (sizeTests ws) → Summed (remaining.Refused x) ws
+  pub sum-refused : {x : Refusal} {t : Verdict} → t ≡ Refused x → answer t ≡ verdict (sizeTests ws)
+      → Summed (remainingOutcome (remaining.Refused x)) ws
   unfolding sumAnswer sumOut
-  sum-refused e = both (cond (eqb (entries ws) 1) 1 (entries ws / 2)) _ ws _ (one-more (sizeTests ws) last e) refl
+  sum-refused {x} e h =
+      let q : number x ≡ verdict (sumTests ws) = stays e (unreduced p ws) 5 ∙ one-more (sizeTests ws) tt last h in
+      (given-none _ {t = Refused x} refl q, left-as _ ws {t = Refused x} refl q refl)
 
   -- the sizes are right: 5 decides
   module _ (s : Sized ws) where
-    decided : (n : ℕ) (new : List ℕ) {x : Remaining} {w : List ℕ} → x ≡ unlessUnreduced (unreduced p ws) n → w ≡ cond (unreduced p ws) ws new
-        → (x ≡ remainingOf (verdict (sumTests ws)) n) × (w ≡ leaves (verdict (sumTests ws)) new ws)
-    decided n new {x} {w} e q = go (unreduced p ws) (one-more (sizeTests ws) last (s .accepted)) e q
+    decided : (n : ℕ) (new : List ℕ) {x : Outcome} {w : List ℕ} → x ≡ unlessUnreduced (unreduced p ws) n → w ≡ cond (unreduced p ws) ws new
+        → (x ≡ given (verdict (sumTests ws)) (n ∷ [])) × (w ≡ leaves (verdict (sumTests ws)) new ws)
+    unfolding refuseIf
+    decided n new {x} {w} e q = go (unreduced p ws) (one-more (sizeTests ws) tt last (s .accepted)) e q
       where
-        go : (b : Bool) → refuseIf Accepted b Unreduced ≡ verdict (sumTests ws) → x ≡ unlessUnreduced b n → w ≡ cond b ws new
-            → (x ≡ remainingOf (verdict (sumTests ws)) n) × (w ≡ leaves (verdict (sumTests ws)) new ws)
-        go true v e q = rw e (both n new ws _ v q)
-        go false v e q = rw e (both n new ws _ v q)
+        go : (b : Bool) → cond b 5 0 ≡ verdict (sumTests ws) → x ≡ unlessUnreduced b n → w ≡ cond b ws new
+            → (x ≡ given (verdict (sumTests ws)) (n ∷ [])) × (w ≡ leaves (verdict (sumTests ws)) new ws)
+        go true v e q = (e ∙ ap (λ m. given m (n ∷ [])) v, q ∙ ap (λ m. leaves m new ws) v)
+        go false v e q = (e ∙ ap (λ m. given m (n ∷ [])) v, q ∙ ap (λ m. leaves m new ws) v)
 
-    pub sum-constant : entries ws ≡ 1 → {x : Remaining} → x ≡ unlessUnreduced (unreduced p ws) 1 → Summed x ws
+    pub sum-constant : entries ws ≡ 1 → {x : Outcome} → x ≡ unlessUnreduced (unreduced p ws) 1 → Summed x ws
     unfolding sumAnswer sumOut
     sum-constant q e = rw (eq-eqb (entries ws) 1 q) (decided 1 ws e (sym (same (unreduced p ws))))
       where
@@ -104,7 +101,7 @@ module _ (ws : List ℕ) where
         same true = refl
         same false = refl
 
-    pub summed : entries ws ≢ 1 → {x : Remaining} {w : List ℕ} → x ≡ unlessUnreduced (unreduced p ws) (entries ws / 2)
+    pub summed : entries ws ≢ 1 → {x : Outcome} {w : List ℕ} → x ≡ unlessUnreduced (unreduced p ws) (entries ws / 2)
         → w ≡ cond (unreduced p ws) ws (fixedTable Sum ws (field .zero)) → Summed x w
     unfolding sumAnswer sumOut
     summed h e q = rw (ne-eqb (entries ws) 1 h) (decided (entries ws / 2) (fixedTable Sum ws (field .zero)) e q)

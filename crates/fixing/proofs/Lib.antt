@@ -2,3 +2,4 @@ mod Making
 mod Halving
 mod Summing
 mod FixingOutcomes
+pub mod Answers

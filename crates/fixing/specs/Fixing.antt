@@ -1,6 +1,6 @@
 -- Fixing a variable of a table (document 01, "Beside these"; "Refused calls": Fixing). Assumes nothing.
 use Prim.Native.Nat.{ℕ, _+_, _*_, _/_}
-use mathlib.Core.Bool.{Bool, _||_, cond}
+use mathlib.Core.Bool.{cond}
 use mathlib.Core.List.{List, [], _∷_, _++_}
 use lib.Dec.{eqb}
 use lib.ListN.{drop}
@@ -10,10 +10,7 @@ use Rattle.multilinear.specs.Beside.{line}
 use Rattle.field.specs.Field.{p, Ext, field, fromWords}
 use Rattle.field.specs.declared.Element.{Element}
 use Rattle.table.specs.Table.{tableWords, entries, elementAt}
-use Rattle.table.specs.Refusals.{Test, _gives_, verdict, leaves, splits, notPower, tooManyVariables}
-use Rattle.table.specs.declared.Refusal.the-variants.{Split, NotPower, TooMany, Unreduced, Constant}
-use Rattle.table.specs.declared.Verdict.{Verdict}
-use Rattle.table.specs.declared.Verdict.the-variants.{Accepted, Refused}
+use Rattle.table.specs.Refusals.{number, Outcome, Test, _gives_, verdict, leaves, given, splits, notPower, tooManyVariables}
 use Rattle.fixing.specs.declared.Rule.{Rule}
 use Rattle.fixing.specs.declared.Rule.the-variants.{Prefix, Suffix, Sum, Monomial}
 use Rattle.fixing.specs.declared.Remaining.{Remaining}
@@ -38,36 +35,37 @@ fixedTable rule ws r =
 -- Summing: 1, 2, 3, 5
 abbrev pub sumTests : List ℕ → List Test
 sumTests ws =
-    (splits ws gives Split)
-    ∷ (notPower (entries ws) gives NotPower)
-    ∷ (tooManyVariables (entries ws) gives TooMany)
-    ∷ (unreduced p ws gives Unreduced)
+    splits ws gives 1
+    ∷ notPower (entries ws) gives 2
+    ∷ tooManyVariables (entries ws) gives 3
+    ∷ unreduced p ws gives 5
     ∷ []
 
 -- Fixing: 1, 2, 3, 5, 6 (constant table)
 abbrev pub fixTests : List ℕ → Element → List Test
 fixTests ws r =
-    (splits ws gives Split)
-    ∷ (notPower (entries ws) gives NotPower)
-    ∷ (tooManyVariables (entries ws) gives TooMany)
-    ∷ (unreduced p ws || unreduced p (r .c) gives Unreduced)
-    ∷ (eqb (entries ws) 1 gives Constant)
+    splits ws gives 1
+    ∷ notPower (entries ws) gives 2
+    ∷ tooManyVariables (entries ws) gives 3
+    ∷ unreduced p ws gives 5
+    ∷ unreduced p (r .c) gives 5
+    ∷ eqb (entries ws) 1 gives 6
     ∷ []
 
--- the answer: the count of entries that remain
-abbrev pub remainingOf : Verdict → ℕ → Remaining
-remainingOf Accepted n = remaining.Entries n
-remainingOf (Refused x) n = remaining.Refused x
+-- number and words of a `Remaining`: the count of entries that remain
+abbrev pub remainingOutcome : Remaining → Outcome
+remainingOutcome (remaining.Entries n) = record { number = 0; words = n ∷ [] }
+remainingOutcome (remaining.Refused r) = record { number = number r; words = [] }
 
-unfoldable pub fixAnswer : List ℕ → Element → Remaining
-fixAnswer ws r = remainingOf (verdict (fixTests ws r)) (entries ws / 2)
+unfoldable pub fixAnswer : List ℕ → Element → Outcome
+fixAnswer ws r = given (verdict (fixTests ws r)) (entries ws / 2 ∷ [])
 
 unfoldable pub fixOut : Rule → List ℕ → Element → List ℕ
 fixOut rule ws r = leaves (verdict (fixTests ws r)) (fixedTable rule ws (fromWords r)) ws
 
 -- "a constant comes back unchanged"
-unfoldable pub sumAnswer : List ℕ → Remaining
-sumAnswer ws = remainingOf (verdict (sumTests ws)) (cond (eqb (entries ws) 1) 1 (entries ws / 2))
+unfoldable pub sumAnswer : List ℕ → Outcome
+sumAnswer ws = given (verdict (sumTests ws)) (cond (eqb (entries ws) 1) 1 (entries ws / 2) ∷ [])
 
 unfoldable pub sumOut : List ℕ → List ℕ
 sumOut ws = leaves (verdict (sumTests ws)) (cond (eqb (entries ws) 1) ws (fixedTable Sum ws (field .zero))) ws

@@ -1,4 +1,4 @@
--- What the inner functions take and give. No exported operation's contract cites it. Assumes nothing.
+-- What the inner functions take and give. No operation that users call cites it. Assumes nothing.
 use mathlib.Core.Path.{_≡_}
 use mathlib.Core.Bool.{Bool, false, cond}
 use Prim.Native.Nat.{ℕ, _+_, _*_, _≤_, _<_}
@@ -9,30 +9,26 @@ use Rattle.algebra.specs.Words.{unreduced}
 use Rattle.multilinear.specs.Beside.{line}
 use Rattle.field.specs.Field.{p, Ext, field, toWords, Reduced}
 use Rattle.table.specs.Table.{tableWords, entries, getAt, elementAt}
-use Rattle.table.specs.Refusals.{Test, _gives_, verdict, splits, notPower, tooManyVariables}
-use Rattle.table.specs.declared.Refusal.the-variants.{Split, NotPower, TooMany, Unreduced}
-use Rattle.table.specs.declared.Verdict.the-variants.{Accepted}
+use Rattle.table.specs.Refusals.{Outcome, Test, _gives_, verdict, given, splits, notPower, tooManyVariables}
 use Rattle.fixing.specs.declared.Rule.{Rule}
 use Rattle.fixing.specs.declared.Rule.the-variants.{Prefix, Suffix, Sum, Monomial}
-use Rattle.fixing.specs.declared.Remaining.{Remaining}
-use Rattle.fixing.specs.declared.Remaining.the-variants as remaining
 use Rattle.fixing.specs.Fixing.{fixedAt}
 
 -- the sum's tests of sizes: 1, 2, 3
 abbrev pub sizeTests : List ℕ → List Test
 sizeTests ws =
-    (splits ws gives Split)
-    ∷ (notPower (entries ws) gives NotPower)
-    ∷ (tooManyVariables (entries ws) gives TooMany)
+    splits ws gives 1
+    ∷ notPower (entries ws) gives 2
+    ∷ tooManyVariables (entries ws) gives 3
     ∷ []
 
 -- they hold of nothing
 pub record Sized (ws : List ℕ) : Type 0 where
-  pub accepted : Accepted ≡ verdict (sizeTests ws)
+  pub accepted : 0 ≡ verdict (sizeTests ws)
 
 -- the answer after 5
-abbrev pub unlessUnreduced : Bool → ℕ → Remaining
-unlessUnreduced b n = cond b (remaining.Refused Unreduced) (remaining.Entries n)
+abbrev pub unlessUnreduced : Bool → ℕ → Outcome
+unlessUnreduced b n = given (cond b 5 0) (n ∷ [])
 
 -- two entries made one
 abbrev pub combined : Rule → Ext → Ext → Ext → Ext

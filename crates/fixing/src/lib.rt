@@ -9,16 +9,16 @@ use field::multiplier::Multiplier;
 use table::Refusal;
 use table::Verdict;
 ghost use mathlib.Core.Path.{_≡_};
-ghost use mathlib.Core.Bool.{cond};
+ghost use mathlib.Core.Bool.{_||_, cond};
 ghost use Prim.Native.Nat.{_+_, _*_, _≤_};
 ghost use lib.ListN.{length};
 ghost use Rattle.algebra.specs.Ring.{Ops, minus};
 ghost use Rattle.algebra.specs.Words.{unreduced};
 ghost use Rattle.field.specs.Field.{p, field, fromWords, Reduced, Holds};
 ghost use Rattle.field.specs.Inner.{Ready};
-ghost use Rattle.table.specs.Refusals.{verdict};
+ghost use Rattle.table.specs.Refusals.{answer, verdict};
 ghost use Rattle.fixing.specs.declared.Rule.the-variants.{Prefix, Suffix, Sum, Monomial};
-ghost use Rattle.fixing.specs.Fixing.{fixTests, fixAnswer, fixOut, sumAnswer, sumOut};
+ghost use Rattle.fixing.specs.Fixing.{remainingOutcome, fixTests, fixAnswer, fixOut, sumAnswer, sumOut};
 ghost use Rattle.fixing.specs.Inner.{sizeTests, Sized, unlessUnreduced, TwoHalves, Halves, Pairs, Made, part, paired, halved, combined};
 
 // The most entries of a part.
@@ -40,7 +40,7 @@ pub enum Remaining {
 
 // a0 + (a1 - a0) r over the two halves.
 pub fn fix_prefix_var_mut(entries: &mut [u32], r: Element) -> Remaining
-    ensures { λ x. ⌜ x ≡ fixAnswer (now (entries .entry)) r ⌝ }
+    ensures { λ x. ⌜ remainingOutcome x ≡ fixAnswer (now (entries .entry)) r ⌝ }
     ensures { λ _. ⌜ now (entries .exit) ≡ fixOut Prefix (now (entries .entry)) r ⌝ }
 {
     fix(entries, Rule::Prefix, r)
@@ -48,7 +48,7 @@ pub fn fix_prefix_var_mut(entries: &mut [u32], r: Element) -> Remaining
 
 // a0 + (a1 - a0) r over neighbours.
 pub fn fix_suffix_var_mut(entries: &mut [u32], r: Element) -> Remaining
-    ensures { λ x. ⌜ x ≡ fixAnswer (now (entries .entry)) r ⌝ }
+    ensures { λ x. ⌜ remainingOutcome x ≡ fixAnswer (now (entries .entry)) r ⌝ }
     ensures { λ _. ⌜ now (entries .exit) ≡ fixOut Suffix (now (entries .entry)) r ⌝ }
 {
     fix(entries, Rule::Suffix, r)
@@ -56,7 +56,7 @@ pub fn fix_suffix_var_mut(entries: &mut [u32], r: Element) -> Remaining
 
 // a0 + a1 r over the two halves.
 pub fn fix_prefix_var_mut_monomial(entries: &mut [u32], r: Element) -> Remaining
-    ensures { λ x. ⌜ x ≡ fixAnswer (now (entries .entry)) r ⌝ }
+    ensures { λ x. ⌜ remainingOutcome x ≡ fixAnswer (now (entries .entry)) r ⌝ }
     ensures { λ _. ⌜ now (entries .exit) ≡ fixOut Monomial (now (entries .entry)) r ⌝ }
 {
     fix(entries, Rule::Monomial, r)
@@ -64,7 +64,7 @@ pub fn fix_prefix_var_mut_monomial(entries: &mut [u32], r: Element) -> Remaining
 
 // a0 + a1 over the two halves; a constant comes back unchanged.
 pub fn sum_prefix_var_mut(entries: &mut [u32]) -> Remaining
-    ensures { λ x. ⌜ x ≡ sumAnswer (now (entries .entry)) ⌝ }
+    ensures { λ x. ⌜ remainingOutcome x ≡ sumAnswer (now (entries .entry)) ⌝ }
     ensures { λ _. ⌜ now (entries .exit) ≡ sumOut (now (entries .entry)) ⌝ }
 {
     let tested = test_sizes(entries);
@@ -75,7 +75,7 @@ pub fn sum_prefix_var_mut(entries: &mut [u32]) -> Remaining
 }
 
 fn fix(entries: &mut [u32], rule: Rule, r: Element) -> Remaining
-    ensures { λ x. ⌜ x ≡ fixAnswer (now (entries .entry)) r ⌝ }
+    ensures { λ x. ⌜ remainingOutcome x ≡ fixAnswer (now (entries .entry)) r ⌝ }
     ensures { λ _. ⌜ now (entries .exit) ≡ fixOut rule (now (entries .entry)) r ⌝ }
 {
     let tested = test_fix(entries, r);
@@ -90,22 +90,22 @@ fn fix(entries: &mut [u32], rule: Rule, r: Element) -> Remaining
 }
 
 fn test_fix(entries: &[u32], r: Element) -> Verdict
-    ensures { λ x. ⌜ x ≡ verdict (fixTests (now (entries .entry)) r) ⌝ }
+    ensures { λ x. ⌜ answer x ≡ verdict (fixTests (now (entries .entry)) r) ⌝ }
 {
     let n = entries.len() / 4;
     let words = r.c;
-    let unreduced = table::either(field::unreduced(entries), field::unreduced(&words));
     Verdict::Accepted
         .refuse_if(table::splits(entries), Refusal::Split)
         .refuse_if(table::not_power(n), Refusal::NotPower)
         .refuse_if(table::too_many_variables(n), Refusal::TooMany)
-        .refuse_if(unreduced, Refusal::Unreduced)
+        .refuse_if(field::unreduced(entries), Refusal::Unreduced)
+        .refuse_if(field::unreduced(&words), Refusal::Unreduced)
         .refuse_if(n == 1, Refusal::Constant)
 }
 
 // 1, 2, 3.
 fn test_sizes(entries: &[u32]) -> Verdict
-    ensures { λ x. ⌜ x ≡ verdict (sizeTests (now (entries .entry))) ⌝ }
+    ensures { λ x. ⌜ answer x ≡ verdict (sizeTests (now (entries .entry))) ⌝ }
 {
     let n = entries.len() / 4;
     Verdict::Accepted
@@ -117,7 +117,7 @@ fn test_sizes(entries: &[u32]) -> Verdict
 // 5, and the sums.
 fn sum_sized(entries: &mut [u32]) -> Remaining
     requires { ⌜ Sized (now entries) ⌝ }
-    ensures { λ x. ⌜ x ≡ sumAnswer (now (entries .entry)) ⌝ }
+    ensures { λ x. ⌜ remainingOutcome x ≡ sumAnswer (now (entries .entry)) ⌝ }
     ensures { λ _. ⌜ now (entries .exit) ≡ sumOut (now (entries .entry)) ⌝ }
 {
     let n = entries.len() / 4;
@@ -128,7 +128,7 @@ fn sum_sized(entries: &mut [u32]) -> Remaining
 }
 
 fn answer(unreduced: bool, n: usize) -> Remaining
-    ensures { λ x. ⌜ x ≡ unlessUnreduced unreduced n ⌝ }
+    ensures { λ x. ⌜ remainingOutcome x ≡ unlessUnreduced unreduced n ⌝ }
 {
     if unreduced {
         Remaining::Refused(Refusal::Unreduced)
@@ -147,7 +147,7 @@ fn sum_halves(entries: &mut [u32], h: usize) -> bool
     let mut at = 0;
     while at < h {
         let n = table::smaller(PART, h - at);
-        if table::either(
+        if either(
             is_part_unreduced(entries, at, n),
             is_part_unreduced(entries, h + at, n),
         ) {
@@ -158,6 +158,12 @@ fn sum_halves(entries: &mut [u32], h: usize) -> bool
         at += n;
     }
     false
+}
+
+fn either(a: bool, b: bool) -> bool
+    ensures { λ x. ⌜ x ≡ a || b ⌝ }
+{
+    if a { true } else { b }
 }
 
 // 5, of n entries from entry `from` on.

@@ -6,3 +6,4 @@ mod Spelling
 mod Reading
 mod Printing
 pub mod ReadsBack
+pub mod Written

@@ -5,16 +5,17 @@ use Prim.Native.Nat.{ℕ, zero, suc, _+_, _*_, _/_, _%_, _^_, _<_}
 use native.Mathlib.Omega.{arith}
 use mathlib.Core.List.{List, [], _∷_, _++_}
 use lib.ListN.{length, getD}
+use lib.Seq.{getD-append-add}
 use Rattle.frame.specs.Hex.{isHex, spelled, bytesOf, wordAt, wordsAt, byteDigits, wordDigits, ReadsBack}
 use Rattle.frame.proofs.Glyphs.{glyph-digit}
 
 -- the two digits of a byte are digits
-byte-hex : (x : ℕ) (cs : List ℕ) → isHex (byteDigits x ++ cs) ≡ isHex cs
+pub byte-hex : (x : ℕ) (cs : List ℕ) → isHex (byteDigits x ++ cs) ≡ isHex cs
 unfolding isHex
 byte-hex x cs = rw (glyph-digit (x / 16 % 16) (omega arith) .0, glyph-digit (x % 16) (omega arith) .0)
 
 -- and spell it
-byte-spelled : (x : ℕ) (cs : List ℕ) → x < 256 → spelled (byteDigits x ++ cs) ≡ x ∷ spelled cs
+pub byte-spelled : (x : ℕ) (cs : List ℕ) → x < 256 → spelled (byteDigits x ++ cs) ≡ x ∷ spelled cs
 unfolding spelled
 byte-spelled x cs h =
     let e : 16 * (x / 16 % 16) + x % 16 ≡ x = omega arith in
@@ -69,30 +70,36 @@ printed-spells (w ∷ ws) h =
     (omega arith)
     ∙ ap (λ (l : List ℕ). w / 16777216 ∷ w / 65536 % 256 ∷ w / 256 % 256 ∷ w % 256 ∷ l) (printed-spells ws (λ i. h (suc i)))
 
--- past four bytes
-module _ (x₀ x₁ x₂ x₃ : ℕ) (bs : List ℕ) where
-  past : (b j : ℕ) → getD (x₀ ∷ x₁ ∷ x₂ ∷ x₃ ∷ bs) (b + 4 + j) 0 ≡ getD bs (b + j) 0
+-- past the bytes xs
+module _ (xs bs : List ℕ) where
+  past : (b j : ℕ) → getD (xs ++ bs) (length xs + b + j) 0 ≡ getD bs (b + j) 0
   past b j =
-      let e : b + 4 + j ≡ suc (suc (suc (suc (b + j)))) = omega arith in
-      rw e
+      let e : length xs + b + j ≡ length xs + (b + j) = omega arith in
+      rw e (getD-append-add xs bs (b + j) 0)
 
-  past-word : (b : ℕ) → wordAt (x₀ ∷ x₁ ∷ x₂ ∷ x₃ ∷ bs) (b + 4) ≡ wordAt bs b
-  past-word b =
-      let e : b + 4 ≡ suc (suc (suc (suc b))) = omega arith in
-      rw (past b 1, past b 2, past b 3, e)
+  past-word : (b : ℕ) → wordAt (xs ++ bs) (length xs + b) ≡ wordAt bs b
+  past-word b = rw (past b 1, past b 2, past b 3, getD-append-add xs bs b 0)
 
-  past-words : (n b : ℕ) → wordsAt n (x₀ ∷ x₁ ∷ x₂ ∷ x₃ ∷ bs) (b + 4) ≡ wordsAt n bs b
+  pub past-words : (n b : ℕ) → wordsAt n (xs ++ bs) (length xs + b) ≡ wordsAt n bs b
   unfolding wordsAt
   past-words zero b = refl
-  past-words (suc n) b = rw (past-word b, past-words n (b + 4))
+  past-words (suc n) b =
+      let e : length xs + b + 4 ≡ length xs + (b + 4) = omega arith in
+      rw (past-word b, e, past-words n (b + 4))
 
-octets-back : (ws : List ℕ) → ((i : ℕ) → getD ws i 0 < 2 ^ 32) → wordsAt (length ws) (octetsOf ws) 0 ≡ ws
+pub octets-length : (ws : List ℕ) → length (octetsOf ws) ≡ 4 * length ws
+unfolding octetsOf
+octets-length [] = refl
+octets-length (w ∷ ws) = omega (arith, octets-length ws)
+
+pub octets-back : (ws : List ℕ) → ((i : ℕ) → getD ws i 0 < 2 ^ 32) → wordsAt (length ws) (octetsOf ws) 0 ≡ ws
 unfolding wordsAt octetsOf
 octets-back [] h = refl
 octets-back (w ∷ ws) h =
     let small : w < 2 ^ 32 = h 0 in
     let same : w / 16777216 * 16777216 + w / 65536 % 256 * 65536 + w / 256 % 256 * 256 + w % 256 ≡ w = omega arith in
-    let rest = past-words (w / 16777216) (w / 65536 % 256) (w / 256 % 256) (w % 256) (octetsOf ws) (length ws) 0 in
+    let here : List ℕ = w / 16777216 ∷ w / 65536 % 256 ∷ w / 256 % 256 ∷ w % 256 ∷ [] in
+    let rest = past-words here (octetsOf ws) (length ws) 0 in
     rw (same, rest) (ap (λ (l : List ℕ). w ∷ l) (octets-back ws (λ i. h (suc i))))
 
 pub printed-bytes : (ws : List ℕ) → ((i : ℕ) → getD ws i 0 < 2 ^ 32) → bytesOf (wordDigits ws) ≡ octetsOf ws

@@ -1,3 +1,4 @@
 pub mod Hex
 pub mod Frame
+pub mod Written
 pub mod Inner

@@ -28,9 +28,6 @@ pub enum Kind {
 // The most bytes of a frame: 03, the count, and 16 words.
 pub const MOST_BYTES: usize = 66;
 
-// The most words of a frame.
-pub const MOST_WORDS: usize = 16;
-
 // Whether the line is digits alone, two a byte.
 pub fn is_hex(line: &[u8]) -> bool
     ensures { λ r. ⌜ r ≡ isHex (now (line .entry)) ⌝ }

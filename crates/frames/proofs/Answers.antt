@@ -1,55 +1,33 @@
 -- The answer to a line, after the tests that every line shares. Assumes nothing.
-use mathlib.Core.Path.{_≡_, refl, sym, _∙_}
-use mathlib.Core.Bool.{Bool, true, false, cond, not}
+use mathlib.Core.Path.{_≡_, sym, _∙_}
+use mathlib.Core.Bool.{not}
 use Prim.Native.Nat.{ℕ}
-use native.Mathlib.Omega.{arith}
-use mathlib.Core.List.{List, _∷_}
-use Rattle.table.specs.Refusals.{Test, _gives_, verdict}
-use Rattle.table.specs.Inner.{refuseIf}
+use mathlib.Core.List.{List, [], _∷_}
+use Rattle.table.specs.Refusals.{answer, number, Test, _gives_, verdict, leaves}
 use Rattle.table.specs.declared.Refusal.{Refusal}
-use Rattle.table.specs.declared.Refusal.the-variants.{Closed, NotFrame}
 use Rattle.table.specs.declared.Verdict.{Verdict}
 use Rattle.table.specs.declared.Verdict.the-variants.{Accepted, Refused}
+use Rattle.table.proofs.Answers.{answer-as}
+use Rattle.table.proofs.Outcomes.{left-as}
+use Rattle.table.proofs.Fronts.{front}
 use Rattle.frame.specs.declared.Kind.{Kind}
 use Rattle.frame.specs.Frame.{kindOf}
 use Rattle.frames.specs.declared.Reader.{Reader}
 use Rattle.frames.specs.Reader.{isDone, inPlace, kindTests, lineAnswer}
 
--- two tests, and those behind them
-module _ (a b : Bool) (x y : Refusal) (ts : List Test) where
-  refused-first : (z : Refusal) → refuseIf (refuseIf Accepted a x) b y ≡ Refused z → Refused z ≡ verdict ((a gives x) ∷ (b gives y) ∷ ts)
-  unfolding verdict
-  refused-first z e = go a b e
-    where
-      go : (a b : Bool) → refuseIf (refuseIf Accepted a x) b y ≡ Refused z
-          → Refused z ≡ cond a (Refused x) (cond b (Refused y) (verdict ts))
-      go true b e = sym e
-      go false true e = sym e
-      go false false e = absurd (let z : _≡_ {A = ℕ} 0 1 = cc in omega arith)
+-- 10, 12
+abbrev pub sharedTests : Reader → Kind → List Test
+sharedTests r k = isDone (r .phase) gives 10 ∷ not (inPlace (r .phase) k) gives 12 ∷ []
 
-  passed-first : refuseIf (refuseIf Accepted a x) b y ≡ Accepted → verdict ts ≡ verdict ((a gives x) ∷ (b gives y) ∷ ts)
-  unfolding verdict
-  passed-first e = go a b e
-    where
-      go : (a b : Bool) → refuseIf (refuseIf Accepted a x) b y ≡ Accepted
-          → verdict ts ≡ cond a (Refused x) (cond b (Refused y) (verdict ts))
-      go true b e = absurd (let z : _≡_ {A = ℕ} 0 1 = cc in omega arith)
-      go false true e = absurd (let z : _≡_ {A = ℕ} 0 1 = cc in omega arith)
-      go false false e = refl
-
--- a line of this kind, by the verdict v on the tests that all share
-module _ (r : Reader) (bs : List ℕ) {kind : Kind} {v : Verdict} (is : kind ≡ kindOf bs)
-    (e : v ≡ refuseIf (refuseIf Accepted (isDone (r .phase)) Closed) (not (inPlace (r .phase) kind)) NotFrame) where
-  shared : refuseIf (refuseIf Accepted (isDone (r .phase)) Closed) (not (inPlace (r .phase) (kindOf bs))) NotFrame ≡ v
-  shared = sym (rw (← is) e)
-
-  pub refused : {z : Refusal} → v ≡ Refused z → Refused z ≡ lineAnswer r bs
+-- a line of this kind, by the verdict t on the tests that all share
+module _ (r : Reader) (bs : List ℕ) {kind : Kind} (is : kind ≡ kindOf bs) where
+  behind : leaves (verdict (sharedTests r kind)) (verdict (kindTests kind r bs)) (verdict (sharedTests r kind)) ≡ lineAnswer r bs
   unfolding lineAnswer
-  refused {z} h =
-      refused-first (isDone (r .phase)) (not (inPlace (r .phase) (kindOf bs))) Closed NotFrame (kindTests (kindOf bs) r bs) z (shared ∙ h)
+  behind = sym (front (sharedTests r kind) (kindTests kind r bs) tt) ∙ rw is
 
-  pub passed : {u : Verdict} → v ≡ Accepted → u ≡ verdict (kindTests kind r bs) → u ≡ lineAnswer r bs
-  unfolding lineAnswer
-  passed h k =
-      k ∙ rw is
-      (passed-first (isDone (r .phase)) (not (inPlace (r .phase) (kindOf bs))) Closed NotFrame (kindTests (kindOf bs) r bs) (shared ∙ h))
+  pub refused : {t : Verdict} {z : Refusal} → answer t ≡ verdict (sharedTests r kind) → t ≡ Refused z → number z ≡ lineAnswer r bs
+  refused e h = left-as (verdict (kindTests kind r bs)) (verdict (sharedTests r kind)) h e (answer-as h e) ∙ behind
+
+  pub passed : {t : Verdict} {n : ℕ} → answer t ≡ verdict (sharedTests r kind) → t ≡ Accepted → n ≡ verdict (kindTests kind r bs)
+      → n ≡ lineAnswer r bs
+  passed e h k = left-as (verdict (kindTests kind r bs)) (verdict (sharedTests r kind)) h e k ∙ behind

@@ -15,7 +15,6 @@ use Rattle.table.proofs.Laws.{table-length}
 use Rattle.table.proofs.Parts.{unreduced-put}
 use Rattle.table.proofs.Tests.{unreduced-table}
 use Rattle.session.specs.Session.{fed}
-use Rattle.table.specs.declared.Verdict.the-variants.{Accepted}
 use Rattle.frame.specs.declared.Kind.{Kind}
 use Rattle.frame.specs.declared.Kind.the-variants.{Open, Coordinate, Words, Close, NoFrame}
 use Rattle.frame.specs.Frame.{kindOf, indexOf, coordinateOf, wordsOf}
@@ -123,7 +122,7 @@ module _ (r : Reader) (bs out : List ℕ) (d : Ready r out) where
       }
 
   -- what an `03` hands to the piece
-  pub adds : lineAnswer r bs ≡ Accepted → kindOf bs ≡ Words → Adds (r .session) (wordsOf bs) (take (used r) out)
+  pub adds : lineAnswer r bs ≡ 0 → kindOf bs ≡ Words → Adds (r .session) (wordsOf bs) (take (used r) out)
   adds a e =
       let f = feeds r bs a e in
       record {

@@ -5,6 +5,6 @@ mod Printing
 pub mod Spelling
 mod Reading
 mod Answers
-mod Accepted
+pub mod Accepted
 pub mod Keeping
 mod Turns

@@ -7,7 +7,6 @@ use lib.ListN.{length, take}
 use Rattle.algebra.specs.Words.{unreduced}
 use Rattle.field.specs.Field.{p, Reduced}
 use Rattle.table.specs.Refusals.{most}
-use Rattle.table.specs.declared.Verdict.the-variants.{Accepted}
 use Rattle.session.specs.declared.Session.{Session}
 use Rattle.session.specs.Session.{marked}
 use Rattle.frame.specs.declared.Kind.{Kind}
@@ -26,7 +25,7 @@ pub record InLimits (r : Reader) : Type 0 where
 pub record Takes (r : Reader) (kind : Kind) (bs out : List ℕ) : Type 0 where
   pub ready : Ready r out
   pub kind-is : kind ≡ kindOf bs
-  pub accepted : lineAnswer r bs ≡ Accepted
+  pub accepted : lineAnswer r bs ≡ 0
 
 -- two lines' bytes that the program treats alike
 pub record Alike (bs cs : List ℕ) : Type 0 where

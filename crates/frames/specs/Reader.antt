@@ -13,9 +13,7 @@ use Rattle.multilinear.specs.declared.Weight.the-variants.{Plain}
 use Rattle.field.specs.Field.{p, Reduced}
 use Rattle.field.specs.declared.Element.{Element}
 use Rattle.table.specs.Table.{putAt}
-use Rattle.table.specs.Refusals.{Test, _gives_, verdict, leaves, most}
-use Rattle.table.specs.declared.Refusal.the-variants.{TooMany, Lengths, Unreduced, TooLong, Closed, NotFrame, Coordinates}
-use Rattle.table.specs.declared.Verdict.{Verdict}
+use Rattle.table.specs.Refusals.{answer, Test, _gives_, verdict, leaves, most}
 use Rattle.session.specs.declared.Session.{Session}
 use Rattle.session.specs.Session.{marked, fed}
 use Rattle.frame.specs.declared.Kind.{Kind}
@@ -74,26 +72,27 @@ misplaced r = isPoints (r .phase) && (r .beyond || not (onceEach (r .session .k)
 -- "Then at `01`: 3, 4 (k above n), 5, 3 (n - k over 10)"
 abbrev pub openTests : List ℕ → List Test
 openTests bs =
-    (ltb most (variablesOf bs) || ltb most (coordinatesOf bs) gives TooMany)
-    ∷ (ltb (variablesOf bs) (coordinatesOf bs) gives Lengths)
-    ∷ (unreduced p (scaleOf bs .c) gives Unreduced)
-    ∷ (ltb mostPlaces (variablesOf bs - coordinatesOf bs) gives TooMany)
+    ltb most (variablesOf bs) gives 3
+    ∷ ltb most (coordinatesOf bs) gives 3
+    ∷ ltb (variablesOf bs) (coordinatesOf bs) gives 4
+    ∷ unreduced p (scaleOf bs .c) gives 5
+    ∷ ltb mostPlaces (variablesOf bs - coordinatesOf bs) gives 3
     ∷ []
 
 -- "At `02`: 5"
 abbrev pub coordinateTests : List ℕ → List Test
-coordinateTests bs = (unreduced p (coordinateOf bs .c) gives Unreduced) ∷ []
+coordinateTests bs = unreduced p (coordinateOf bs .c) gives 5 ∷ []
 
 -- "At `03`: 5, 8", after 13
 abbrev pub wordsTests : Reader → List ℕ → List Test
 wordsTests r bs =
-    (misplaced r gives Coordinates)
-    ∷ (unreduced p (wordsOf bs) gives Unreduced)
-    ∷ (ltb (2 ^ r .session .n) (r .session .taken + length (wordsOf bs)) gives TooLong)
+    misplaced r gives 13
+    ∷ unreduced p (wordsOf bs) gives 5
+    ∷ ltb (2 ^ r .session .n) (r .session .taken + length (wordsOf bs)) gives 8
     ∷ []
 
 abbrev pub closeTests : Reader → List Test
-closeTests r = (misplaced r gives Coordinates) ∷ []
+closeTests r = misplaced r gives 13 ∷ []
 
 abbrev pub kindTests : Kind → Reader → List ℕ → List Test
 kindTests kind.Open r bs = openTests bs
@@ -105,12 +104,12 @@ kindTests kind.NoFrame r bs = []
 -- "Any line after `04` is 10; else 12 (not a frame, a byte outside its values, or out of place)", and then the kind's own
 abbrev pub lineTests : Reader → List ℕ → List Test
 lineTests r bs =
-    (isDone (r .phase) gives Closed)
-    ∷ (not (inPlace (r .phase) (kindOf bs)) gives NotFrame)
+    isDone (r .phase) gives 10
+    ∷ not (inPlace (r .phase) (kindOf bs)) gives 12
     ∷ kindTests (kindOf bs) r bs
 
 -- the answer to a line of these bytes
-unfoldable pub lineAnswer : Reader → List ℕ → Verdict
+unfoldable pub lineAnswer : Reader → List ℕ → ℕ
 lineAnswer r bs = verdict (lineTests r bs)
 
 -- a session of these numbers, every coordinate 0 as yet
@@ -211,9 +210,13 @@ outBy kind.Coordinate r bs out = out
 outBy kind.Close r bs out = out
 outBy kind.NoFrame r bs out = out
 
--- the state after a line of these bytes, beside its answer; a refused line changes nothing
-unfoldable pub turned : Reader → List ℕ → Turn
-turned r bs = record { answer = lineAnswer r bs; reader = leaves (lineAnswer r bs) (taken (kindOf bs) r bs) r }
+-- number and values of a `Turn`: its answer's number, and the state
+abbrev pub turn : Turn → ℕ × Reader
+turn t = (answer (t .answer), t .reader)
+
+-- a line's number, and the state after it; a refused line changes nothing
+unfoldable pub turned : Reader → List ℕ → ℕ × Reader
+turned r bs = (lineAnswer r bs, leaves (lineAnswer r bs) (taken (kindOf bs) r bs) r)
 
 unfoldable pub outAfter : Reader → List ℕ → List ℕ → List ℕ
 outAfter r bs out = leaves (lineAnswer r bs) (outBy (kindOf bs) r bs out) out

@@ -14,12 +14,12 @@ ghost use Prim.Native.Nat.{_≤_, _<_};
 ghost use lib.ListN.{length, take, replicate};
 ghost use mathlib.Core.Bool.{not};
 ghost use Rattle.table.specs.Table.{putAt};
-ghost use Rattle.table.specs.Refusals.{verdict};
+ghost use Rattle.table.specs.Refusals.{answer, verdict};
 ghost use Rattle.session.specs.Session.{fed};
 ghost use Rattle.frame.specs.declared.Kind.the-variants.{Open, Coordinate, Words, Close};
 ghost use Rattle.frame.specs.Hex.{bytesOf};
 ghost use Rattle.frame.specs.Frame.{byteAt, kindOf, wordsOf};
-ghost use Rattle.frames.specs.Reader.{inPlace, isDone, isPoints, onceMore, withCoordinates, sessionBy, onceEach, misplaced, openTests, coordinateTests, wordsTests, kindTests, lineAnswer, started, opened, noted, counted, taken, outBy, turned, outAfter, Ready};
+ghost use Rattle.frames.specs.Reader.{inPlace, isDone, isPoints, onceMore, withCoordinates, sessionBy, onceEach, misplaced, openTests, coordinateTests, wordsTests, kindTests, lineAnswer, started, opened, noted, counted, taken, outBy, turn, turned, outAfter, Ready};
 ghost use Rattle.frames.specs.Inner.{InLimits, Takes, Alike, Adds, markedAs};
 
 pub mod text;
@@ -70,7 +70,7 @@ pub fn start() -> Reader
 // words are below p (`at-start` of proofs/Keeping.antt), and each step gives it for the next.
 pub fn step(reader: Reader, line: &[u8], out: &mut [u32]) -> Turn
     requires { ⌜ Ready reader (now out) ⌝ }
-    ensures { λ r. ⌜ r ≡ turned reader (bytesOf (now (line .entry))) ⌝ }
+    ensures { λ r. ⌜ turn r ≡ turned reader (bytesOf (now (line .entry))) ⌝ }
     ensures { λ _. ⌜ now (out .exit) ≡ outAfter reader (bytesOf (now (line .entry))) (now (out .entry)) ⌝ }
     ensures { λ r. ⌜ Ready (r .reader) (now (out .exit)) ⌝ }
 {
@@ -98,7 +98,7 @@ fn spelled(line: &[u8], bytes: &mut [u8]) -> usize
 
 fn step_bytes(reader: Reader, bytes: &[u8], out: &mut [u32]) -> Turn
     requires { ⌜ Ready reader (now out) ⌝ }
-    ensures { λ r. ⌜ r ≡ turned reader (now (bytes .entry)) ⌝ }
+    ensures { λ r. ⌜ turn r ≡ turned reader (now (bytes .entry)) ⌝ }
     ensures { λ _. ⌜ now (out .exit) ≡ outAfter reader (now (bytes .entry)) (now (out .entry)) ⌝ }
     ensures { λ r. ⌜ Ready (r .reader) (now (out .exit)) ⌝ }
 {
@@ -119,7 +119,7 @@ fn step_bytes(reader: Reader, bytes: &[u8], out: &mut [u32]) -> Turn
 // 10, 12, and then the kind's own.
 fn test_line(reader: Reader, kind: Kind, bytes: &[u8]) -> Verdict
     requires { ⌜ InLimits reader × (kind ≡ kindOf (now bytes)) ⌝ }
-    ensures { λ r. ⌜ r ≡ lineAnswer reader (now (bytes .entry)) ⌝ }
+    ensures { λ r. ⌜ answer r ≡ lineAnswer reader (now (bytes .entry)) ⌝ }
 {
     let phase = reader.phase;
     let tested = Verdict::Accepted
@@ -190,7 +190,7 @@ fn is_fed(phase: Phase) -> bool
 
 fn test_kind(reader: Reader, kind: Kind, bytes: &[u8]) -> Verdict
     requires { ⌜ InLimits reader × (kind ≡ kindOf (now bytes)) ⌝ }
-    ensures { λ r. ⌜ r ≡ verdict (kindTests kind reader (now (bytes .entry))) ⌝ }
+    ensures { λ r. ⌜ answer r ≡ verdict (kindTests kind reader (now (bytes .entry))) ⌝ }
 {
     match kind {
         Kind::Open => test_open(bytes),
@@ -204,15 +204,15 @@ fn test_kind(reader: Reader, kind: Kind, bytes: &[u8]) -> Verdict
 // 3, 4, 5, 3.
 fn test_open(bytes: &[u8]) -> Verdict
     requires { ⌜ kindOf (now bytes) ≡ Open ⌝ }
-    ensures { λ r. ⌜ r ≡ verdict (openTests (now (bytes .entry))) ⌝ }
+    ensures { λ r. ⌜ answer r ≡ verdict (openTests (now (bytes .entry))) ⌝ }
 {
     let n = frame::number(bytes, 3);
     let k = frame::number(bytes, 4);
     let scale = frame::element(bytes, 5);
     let words = scale.c;
-    let many = table::either(table::MOST < n, table::MOST < k);
     Verdict::Accepted
-        .refuse_if(many, Refusal::TooMany)
+        .refuse_if(table::MOST < n, Refusal::TooMany)
+        .refuse_if(table::MOST < k, Refusal::TooMany)
         .refuse_if(n < k, Refusal::Lengths)
         .refuse_if(field::unreduced(&words), Refusal::Unreduced)
         .refuse_if(MOST_PLACES < table::remaining(n, k), Refusal::TooMany)
@@ -221,7 +221,7 @@ fn test_open(bytes: &[u8]) -> Verdict
 // 5.
 fn test_coordinate(bytes: &[u8]) -> Verdict
     requires { ⌜ kindOf (now bytes) ≡ Coordinate ⌝ }
-    ensures { λ r. ⌜ r ≡ verdict (coordinateTests (now (bytes .entry))) ⌝ }
+    ensures { λ r. ⌜ answer r ≡ verdict (coordinateTests (now (bytes .entry))) ⌝ }
 {
     let coordinate = frame::element(bytes, 2);
     let words = coordinate.c;
@@ -231,7 +231,7 @@ fn test_coordinate(bytes: &[u8]) -> Verdict
 // 13, 5, 8.
 fn test_words(reader: Reader, bytes: &[u8]) -> Verdict
     requires { ⌜ InLimits reader × (kindOf (now bytes) ≡ Words) ⌝ }
-    ensures { λ r. ⌜ r ≡ verdict (wordsTests reader (now (bytes .entry))) ⌝ }
+    ensures { λ r. ⌜ answer r ≡ verdict (wordsTests reader (now (bytes .entry))) ⌝ }
 {
     let count = frame::number(bytes, 1);
     let words = words_in(bytes, count);

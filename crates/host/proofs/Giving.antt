@@ -1,27 +1,15 @@
--- Answers with elements: the outcomes, by the length of out. Assumes nothing.
-use mathlib.Core.Path.{_≡_, refl, sym, ap, _∙_}
-use mathlib.Core.Bool.{cond}
-use mathlib.Core.Logic.{_≢_}
+-- Elements put into words that have just their count. Assumes nothing.
+use mathlib.Core.Path.{_≡_, refl, ap, _∙_}
 use Prim.Native.Nat.{ℕ, suc, _+_, _*_}
 use native.Mathlib.Omega.{arith}
 use mathlib.Core.List.{List, [], _∷_, _++_}
-use lib.Dec.{eqb}
 use lib.ListN.{length}
-use borrow.Author.Tests.{eq-eqb, ne-eqb}
 use Rattle.field.specs.Field.{at}
 use Rattle.field.specs.declared.Element.{Element}
 use Rattle.field.specs.declared.Value.{Value}
 use Rattle.table.specs.Table.{putAt}
-use Rattle.table.specs.Refusals.{number}
-use Rattle.table.specs.declared.Refusal.the-variants.{Lengths}
-use Rattle.host.specs.Answers.{valueWords, wordsElement, Given}
-
-module _ (n : ℕ) (tested : List ℕ) (given : ℕ) (new was : List ℕ) where
-  pub unfit : {r : ℕ} → length tested ≢ n → r ≡ number Lengths → Given n tested given new was was r
-  unfit d e = record { answer-is = rw (ne-eqb (length tested) n d) e; out-is = rw (ne-eqb (length tested) n d) }
-
-  pub fit : {r : ℕ} {now : List ℕ} → length tested ≡ n → r ≡ given → now ≡ new → Given n tested given new was now r
-  fit l e q = record { answer-is = rw (eq-eqb (length tested) n l) e; out-is = rw (eq-eqb (length tested) n l) q }
+use Rattle.table.specs.Refusals.{valueWords}
+use Rattle.host.specs.Inner.{wordsElement}
 
 put-cons : (a b c d : ℕ) (ws : List ℕ) (i : ℕ) (e : Element) → putAt (a ∷ b ∷ c ∷ d ∷ ws) (suc i) e ≡ a ∷ b ∷ c ∷ d ∷ putAt ws i e
 unfolding putAt
@@ -38,7 +26,7 @@ first : (a b c d : ℕ) (ws : List ℕ) (u : Value) (i : ℕ) (v : Value)
 unfolding putAt
 first a b c d ws u i v = put-cons (u .c0) (u .c1) (u .c2) (u .c3) ws i (wordsElement v)
 
--- elements put into words that have just their count
+-- the whole of them
 pub put-four : (ws : List ℕ) (e : Element) → length ws ≡ 4 → putAt ws 0 e ≡ at e 0 ∷ at e 1 ∷ at e 2 ∷ at e 3 ∷ []
 unfolding putAt
 put-four [] e l = absurd (omega arith)

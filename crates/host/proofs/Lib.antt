@@ -1,4 +1,6 @@
-mod Outcomes
-mod Chaining
+mod Calls
 mod Giving
-mod Fitting
+mod Applying
+mod Chaining
+mod Scaling
+mod Counting

@@ -1,2 +1,5 @@
-pub mod Elements
 pub mod Answers
+pub mod Elements
+pub mod Scaled
+pub mod Fixed
+pub mod Inner

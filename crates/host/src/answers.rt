@@ -6,19 +6,24 @@ use table::Evaluation;
 use table::Refusal;
 use table::Verdict;
 ghost use mathlib.Core.Path.{_≡_};
-ghost use mathlib.Core.Bool.{not, _&&_};
+ghost use mathlib.Core.List.{[], _∷_};
 ghost use Prim.Native.Nat.{_+_, _*_, _<_};
 ghost use lib.ListN.{length};
-ghost use Rattle.table.specs.Refusals.{number};
+ghost use Rattle.table.specs.Refusals.{number, outcome};
 ghost use Rattle.table.specs.Table.{putAt};
-ghost use Rattle.host.specs.Answers.{GivenValue, GivenNext, wordsElement, isFour};
+ghost use Rattle.point.specs.Point.{nextOutcome};
+ghost use Rattle.host.specs.Answers.{after, giving};
+ghost use Rattle.host.specs.Inner.{wordsElement};
+
+// The number of words of a length that a call does not take.
+pub const LENGTHS: u32 = 4;
 
 // 0 and the element's words, or the refusal's number.
 pub fn give(e: Evaluation, out: &mut [u32]) -> u32
-    ensures { λ r. ⌜ GivenValue e (now (out .entry)) (now (out .exit)) r ⌝ }
+    ensures { λ r. ⌜ after r (now (out .exit) ∷ []) ≡ giving 4 (outcome e) (now (out .entry)) ⌝ }
 {
     if out.len() != 4 {
-        return number(Refusal::Lengths);
+        return LENGTHS;
     }
     match e {
         Evaluation::Refused(refusal) => number(refusal),
@@ -31,10 +36,10 @@ pub fn give(e: Evaluation, out: &mut [u32]) -> u32
 
 // 0 and the words of carry, done and omega, or the refusal's number.
 pub fn give_next(e: Next, out: &mut [u32]) -> u32
-    ensures { λ r. ⌜ GivenNext e (now (out .entry)) (now (out .exit)) r ⌝ }
+    ensures { λ r. ⌜ after r (now (out .exit) ∷ []) ≡ giving 12 (nextOutcome e) (now (out .entry)) ⌝ }
 {
     if out.len() != 12 {
-        return number(Refusal::Lengths);
+        return LENGTHS;
     }
     match e {
         Next::Refused(refusal) => number(refusal),
@@ -45,16 +50,6 @@ pub fn give_next(e: Next, out: &mut [u32]) -> u32
             0
         }
     }
-}
-
-// One of the two is not four words.
-pub fn not_both_four(a: &[u32], b: &[u32]) -> bool
-    ensures { λ r. ⌜ r ≡ not (isFour (now (a .entry)) && isFour (now (b .entry))) ⌝ }
-{
-    if a.len() != 4 {
-        return true;
-    }
-    b.len() != 4
 }
 
 pub fn number(refusal: Refusal) -> u32

@@ -3,11 +3,13 @@ use field::Element;
 use table::Refusal;
 use table::Verdict;
 ghost use mathlib.Core.Path.{_≡_};
+ghost use mathlib.Core.List.{[], _∷_};
 ghost use Rattle.algebra.specs.Ring.{Ops};
 ghost use Rattle.multilinear.specs.Beside.{power};
 ghost use Rattle.field.specs.Field.{field, fromWords, Reduced, Holds};
-ghost use Rattle.table.specs.Refusals.{verdict};
-ghost use Rattle.host.specs.Elements.{operated, elementTests, Applied};
+ghost use Rattle.table.specs.Refusals.{answer};
+ghost use Rattle.host.specs.Answers.{after};
+ghost use Rattle.host.specs.Elements.{operated, elementAnswer, applied};
 
 pub enum Operation {
     Add,
@@ -22,7 +24,7 @@ pub enum Operation {
 
 // The operation on the words x and y: out becomes its element's words.
 pub fn apply(operation: Operation, x: &[u32], y: &[u32], out: &mut [u32]) -> u32
-    ensures { λ r. ⌜ Applied operation (now (x .entry)) (now (y .entry)) (now (out .entry)) (now (out .exit)) r ⌝ }
+    ensures { λ r. ⌜ after r (now (out .exit) ∷ []) ≡ applied operation (now (x .entry)) (now (y .entry)) (now (out .entry)) ⌝ }
 {
     let tested = test(x, y, out);
     match tested {
@@ -36,14 +38,14 @@ pub fn apply(operation: Operation, x: &[u32], y: &[u32], out: &mut [u32]) -> u32
 }
 
 fn test(x: &[u32], y: &[u32], out: &[u32]) -> Verdict
-    ensures { λ r. ⌜ r ≡ verdict (elementTests (now (x .entry)) (now (y .entry)) (now (out .entry))) ⌝ }
+    ensures { λ r. ⌜ answer r ≡ elementAnswer (now (x .entry)) (now (y .entry)) (now (out .entry)) ⌝ }
 {
-    let operands = table::either(x.len() != 4, y.len() != 4);
-    let lengths = table::either(operands, out.len() != 4);
-    let unreduced = table::either(field::unreduced(x), field::unreduced(y));
     Verdict::Accepted
-        .refuse_if(lengths, Refusal::Lengths)
-        .refuse_if(unreduced, Refusal::Unreduced)
+        .refuse_if(x.len() != 4, Refusal::Lengths)
+        .refuse_if(y.len() != 4, Refusal::Lengths)
+        .refuse_if(out.len() != 4, Refusal::Lengths)
+        .refuse_if(field::unreduced(x), Refusal::Unreduced)
+        .refuse_if(field::unreduced(y), Refusal::Unreduced)
 }
 
 fn element(operation: Operation, x: Element, y: Element) -> Element

@@ -1,37 +1,39 @@
 // Fixing a variable: the count of entries that remain is one word. A call asks first that it is, and that r is four words.
 use crate::answers;
 use fixing::Remaining;
-use table::Refusal;
 ghost use mathlib.Core.Path.{_≡_};
-ghost use mathlib.Core.Bool.{cond, _&&_};
+ghost use mathlib.Core.List.{[], _∷_};
 ghost use lib.ListN.{length};
-ghost use Rattle.table.specs.Table.{getAt};
-ghost use Rattle.table.specs.Refusals.{number};
-ghost use Rattle.table.specs.declared.Refusal.the-variants.{Lengths};
 ghost use Rattle.fixing.specs.declared.Rule.the-variants.{Prefix, Suffix, Monomial};
-ghost use Rattle.fixing.specs.Fixing.{fixAnswer, fixOut, sumAnswer, sumOut};
-ghost use Rattle.host.specs.Answers.{isFour, isOne, remainingNumber, remainingOut};
+ghost use Rattle.fixing.specs.Fixing.{remainingOutcome};
+ghost use Rattle.host.specs.Answers.{after};
+ghost use Rattle.host.specs.Fixed.{fixed, summed};
+ghost use Rattle.host.specs.Inner.{countOut};
 
 #[no_mangle]
 pub extern "C" fn host_fix_prefix_var_mut(r: &[u32], table: &mut [u32], out: &mut [u32]) -> u32
-    ensures { λ x. ⌜ x ≡ cond (isFour (now (r .entry)) && isOne (now (out .entry))) (remainingNumber (fixAnswer (now (table .entry)) (getAt (now (r .entry)) 0))) (number Lengths) ⌝ }
-    ensures { λ _. ⌜ now (table .exit) ≡ cond (isFour (now (r .entry)) && isOne (now (out .entry))) (fixOut Prefix (now (table .entry)) (getAt (now (r .entry)) 0)) (now (table .entry)) ⌝ }
-    ensures { λ _. ⌜ now (out .exit) ≡ cond (isFour (now (r .entry)) && isOne (now (out .entry))) (remainingOut (fixAnswer (now (table .entry)) (getAt (now (r .entry)) 0)) (now (out .entry))) (now (out .entry)) ⌝ }
+    ensures { λ x. ⌜ after x (now (table .exit) ∷ now (out .exit) ∷ [])
+        ≡ fixed Prefix (now (r .entry)) (now (table .entry)) (now (out .entry)) ⌝ }
 {
-    if table::either(r.len() != 4, out.len() != 1) {
-        return answers::number(Refusal::Lengths);
+    if r.len() != 4 {
+        return answers::LENGTHS;
+    }
+    if out.len() != 1 {
+        return answers::LENGTHS;
     }
     give_count(fixing::fix_prefix_var_mut(table, table::get(r, 0)), out)
 }
 
 #[no_mangle]
 pub extern "C" fn host_fix_suffix_var_mut(r: &[u32], table: &mut [u32], out: &mut [u32]) -> u32
-    ensures { λ x. ⌜ x ≡ cond (isFour (now (r .entry)) && isOne (now (out .entry))) (remainingNumber (fixAnswer (now (table .entry)) (getAt (now (r .entry)) 0))) (number Lengths) ⌝ }
-    ensures { λ _. ⌜ now (table .exit) ≡ cond (isFour (now (r .entry)) && isOne (now (out .entry))) (fixOut Suffix (now (table .entry)) (getAt (now (r .entry)) 0)) (now (table .entry)) ⌝ }
-    ensures { λ _. ⌜ now (out .exit) ≡ cond (isFour (now (r .entry)) && isOne (now (out .entry))) (remainingOut (fixAnswer (now (table .entry)) (getAt (now (r .entry)) 0)) (now (out .entry))) (now (out .entry)) ⌝ }
+    ensures { λ x. ⌜ after x (now (table .exit) ∷ now (out .exit) ∷ [])
+        ≡ fixed Suffix (now (r .entry)) (now (table .entry)) (now (out .entry)) ⌝ }
 {
-    if table::either(r.len() != 4, out.len() != 1) {
-        return answers::number(Refusal::Lengths);
+    if r.len() != 4 {
+        return answers::LENGTHS;
+    }
+    if out.len() != 1 {
+        return answers::LENGTHS;
     }
     give_count(fixing::fix_suffix_var_mut(table, table::get(r, 0)), out)
 }
@@ -42,12 +44,14 @@ pub extern "C" fn host_fix_prefix_var_mut_monomial(
     table: &mut [u32],
     out: &mut [u32],
 ) -> u32
-    ensures { λ x. ⌜ x ≡ cond (isFour (now (r .entry)) && isOne (now (out .entry))) (remainingNumber (fixAnswer (now (table .entry)) (getAt (now (r .entry)) 0))) (number Lengths) ⌝ }
-    ensures { λ _. ⌜ now (table .exit) ≡ cond (isFour (now (r .entry)) && isOne (now (out .entry))) (fixOut Monomial (now (table .entry)) (getAt (now (r .entry)) 0)) (now (table .entry)) ⌝ }
-    ensures { λ _. ⌜ now (out .exit) ≡ cond (isFour (now (r .entry)) && isOne (now (out .entry))) (remainingOut (fixAnswer (now (table .entry)) (getAt (now (r .entry)) 0)) (now (out .entry))) (now (out .entry)) ⌝ }
+    ensures { λ x. ⌜ after x (now (table .exit) ∷ now (out .exit) ∷ [])
+        ≡ fixed Monomial (now (r .entry)) (now (table .entry)) (now (out .entry)) ⌝ }
 {
-    if table::either(r.len() != 4, out.len() != 1) {
-        return answers::number(Refusal::Lengths);
+    if r.len() != 4 {
+        return answers::LENGTHS;
+    }
+    if out.len() != 1 {
+        return answers::LENGTHS;
     }
     give_count(
         fixing::fix_prefix_var_mut_monomial(table, table::get(r, 0)),
@@ -57,12 +61,10 @@ pub extern "C" fn host_fix_prefix_var_mut_monomial(
 
 #[no_mangle]
 pub extern "C" fn host_sum_prefix_var_mut(table: &mut [u32], out: &mut [u32]) -> u32
-    ensures { λ x. ⌜ x ≡ cond (isOne (now (out .entry))) (remainingNumber (sumAnswer (now (table .entry)))) (number Lengths) ⌝ }
-    ensures { λ _. ⌜ now (table .exit) ≡ cond (isOne (now (out .entry))) (sumOut (now (table .entry))) (now (table .entry)) ⌝ }
-    ensures { λ _. ⌜ now (out .exit) ≡ cond (isOne (now (out .entry))) (remainingOut (sumAnswer (now (table .entry))) (now (out .entry))) (now (out .entry)) ⌝ }
+    ensures { λ x. ⌜ after x (now (table .exit) ∷ now (out .exit) ∷ []) ≡ summed (now (table .entry)) (now (out .entry)) ⌝ }
 {
     if out.len() != 1 {
-        return answers::number(Refusal::Lengths);
+        return answers::LENGTHS;
     }
     give_count(fixing::sum_prefix_var_mut(table), out)
 }
@@ -70,8 +72,8 @@ pub extern "C" fn host_sum_prefix_var_mut(table: &mut [u32], out: &mut [u32]) ->
 // 0 and the count, or the refusal's number.
 fn give_count(remaining: Remaining, out: &mut [u32]) -> u32
     requires { ⌜ length (now out) ≡ 1 ⌝ }
-    ensures { λ r. ⌜ r ≡ remainingNumber remaining ⌝ }
-    ensures { λ _. ⌜ now (out .exit) ≡ remainingOut remaining (now (out .entry)) ⌝ }
+    ensures { λ r. ⌜ r ≡ remainingOutcome remaining .number ⌝ }
+    ensures { λ _. ⌜ now (out .exit) ≡ countOut (remainingOutcome remaining) (now (out .entry)) ⌝ }
 {
     match remaining {
         Remaining::Refused(refusal) => answers::number(refusal),

@@ -52,7 +52,7 @@ pub extern "C" fn host_session_feed(piece: &[u32], words: &mut [u32], out: &mut 
     if words.len() != WORDS {
         return NO_SESSION;
     }
-    if is_no_session(words[2], words[3], words[5]) {
+    if holds_none(words) {
         return NO_SESSION;
     }
     keep(session::feed(read(words), piece, out), words)
@@ -63,10 +63,17 @@ pub extern "C" fn host_session_close(words: &mut [u32], out: &mut [u32]) -> u32 
     if words.len() != WORDS {
         return NO_SESSION;
     }
-    if is_no_session(words[2], words[3], words[5]) {
+    if holds_none(words) {
         return NO_SESSION;
     }
     keep(session::close(read(words), out), words)
+}
+
+// The 90 words are no session's.
+fn holds_none(words: &[u32]) -> bool
+    requires { ⌜ length (now words) ≡ 90 ⌝ }
+{
+    is_no_session(words[2], words[3], words[5])
 }
 
 fn is_no_session(side: u32, weight: u32, closed: u32) -> bool {

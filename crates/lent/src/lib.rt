@@ -3,37 +3,45 @@ use session::Session;
 use session::Settled;
 use table::Verdict;
 ghost use mathlib.Core.Path.{_≡_};
-ghost use Rattle.session.specs.Session.{State, state, settled, feedAnswer, feedLeaves, closeAnswer, closeLeaves};
+ghost use Rattle.table.specs.Refusals.{answer};
+ghost use Rattle.session.specs.Session.{state, settled, feedStep, closeStep};
 
 // Adds scale weight word to each word's place, and counts the words.
 pub fn feed(s: &mut Session, piece: &[u32], out: &mut [u32]) -> Verdict
-    ensures { λ r. ⌜ (r ≡ feedAnswer (state (now (s .entry)) (now (out .entry))) (now (piece .entry)))
-        × ((now (s .exit) ≡ feedLeaves (state (now (s .entry)) (now (out .entry))) (now (piece .entry)) .session)
-        × (now (out .exit) ≡ feedLeaves (state (now (s .entry)) (now (out .entry))) (now (piece .entry)) .out)) ⌝ }
+    ensures { λ r. ⌜ (answer r, state (now (s .exit)) (now (out .exit)))
+        ≡ feedStep (state (now (s .entry)) (now (out .entry))) (now (piece .entry)) ⌝ }
 {
     let was = *s;
     let fed = session::feed(was, piece, out);
-    *s = fed.session;
+    s.taken = fed.session.taken;
     fed.answer
 }
 
 // Marks the session closed.
 pub fn close(s: &mut Session, out: &[u32]) -> Verdict
-    ensures { λ r. ⌜ (r ≡ closeAnswer (state (now (s .entry)) (now (out .entry))))
-        × (now (s .exit) ≡ closeLeaves (state (now (s .entry)) (now (out .entry))) .session) ⌝ }
+    ensures { λ r. ⌜ (answer r, state (now (s .exit)) (now (out .entry)))
+        ≡ closeStep (state (now (s .entry)) (now (out .entry))) ⌝ }
 {
     let was = *s;
     let closed = session::close(was, out);
-    *s = closed.session;
+    s.closed = closed.session.closed;
     closed.answer
 }
 
 // The lent feed, for a caller that holds the session by value.
 pub fn feed_through(s: Session, piece: &[u32], out: &mut [u32]) -> Settled
-    ensures { λ r. ⌜ r ≡ settled (feedAnswer (state s (now (out .entry))) (now (piece .entry))) (feedLeaves (state s (now (out .entry))) (now (piece .entry)) .session) ⌝ }
-    ensures { λ _. ⌜ now (out .exit) ≡ feedLeaves (state s (now (out .entry))) (now (piece .entry)) .out ⌝ }
+    ensures { λ r. ⌜ settled r (now (out .exit)) ≡ feedStep (state s (now (out .entry))) (now (piece .entry)) ⌝ }
 {
     let mut t = s;
     let answer = feed(&mut t, piece, out);
+    Settled { answer, session: t }
+}
+
+// The lent close, for a caller that holds the session by value.
+pub fn close_through(s: Session, out: &[u32]) -> Settled
+    ensures { λ r. ⌜ settled r (now (out .entry)) ≡ closeStep (state s (now (out .entry))) ⌝ }
+{
+    let mut t = s;
+    let answer = close(&mut t, out);
     Settled { answer, session: t }
 }

@@ -5,7 +5,6 @@ pub mod EqualityLaws
 pub mod Vertex
 pub mod Successors
 pub mod Select
-pub mod Batch
 pub mod Values
 pub mod Folds
 pub mod Weighed

@@ -1,4 +1,4 @@
--- What the inner functions of folds give. No exported operation's contract cites it. Assumes nothing.
+-- What the inner functions of folds give. No operation that users call cites it. Assumes nothing.
 use Prim.Native.Nat.{ℕ, zero, suc, _+_, _^_}
 use mathlib.Core.Bool.{cond}
 use mathlib.Core.List.{List}

@@ -1,4 +1,4 @@
--- What the inner functions give. No exported operation's contract cites it. Assumes nothing.
+-- What the inner functions give. No operation that users call cites it. Assumes nothing.
 use Prim.Native.Nat.{ℕ}
 use mathlib.Core.List.{List, [], _∷_}
 use Rattle.octets.specs.Octets.{octets}

@@ -8,11 +8,11 @@ use Rattle.field.specs.Field.{Ext, field, fromWords, Holds}
 use Rattle.field.specs.declared.Element.{Element}
 use Rattle.field.proofs.Laws.{field-ring, read-as}
 use Rattle.table.specs.Table.{entries, pointOf, tableWords}
-use Rattle.table.specs.Refusals.{leaves}
+use Rattle.table.specs.Refusals.{answer}
 use Rattle.table.specs.declared.Verdict.{Verdict}
 use Rattle.table.specs.declared.Verdict.the-variants.{Accepted}
 use Rattle.table.proofs.Laws.{table-ext}
-use Rattle.table.proofs.Outcomes.{both}
+use Rattle.table.proofs.Outcomes.{leavesBy, both}
 use Rattle.point.specs.declared.equality.BitOrder.{BitOrder}
 use Rattle.point.specs.Point.{tableAnswer, equalityOut, eqBy}
 
@@ -22,13 +22,13 @@ pub unscaled : (n : ℕ) (f : ℕ → Ext) (e : Element) → Holds e (field .one
 unscaled n f e h = table-ext n _ f (λ y b. ap (λ x. field .mul x (f y)) (read-as _ h) ∙ one-mul field-ring (f y))
 
 -- answer and out of a table, at once
-pub answered : (order : BitOrder) (ps out : List ℕ) {v : Verdict} {w : List ℕ} → v ≡ tableAnswer ps out
-    → w ≡ leaves v (tableWords (2 ^ entries ps) (eqBy order (pointOf ps))) out
-    → (v ≡ tableAnswer ps out) × (w ≡ equalityOut order ps out)
+pub answered : (order : BitOrder) (ps out : List ℕ) {t v : Verdict} {w : List ℕ} → t ≡ v → answer t ≡ tableAnswer ps out
+    → w ≡ leavesBy v (tableWords (2 ^ entries ps) (eqBy order (pointOf ps))) out
+    → (answer v ≡ tableAnswer ps out) × (w ≡ equalityOut order ps out)
 unfolding equalityOut
 answered order ps out = both (tableWords (2 ^ entries ps) (eqBy order (pointOf ps))) out
 
-pub filled : (order : BitOrder) (ps out : List ℕ) (one : Element) {w : List ℕ} → Accepted ≡ tableAnswer ps out → Holds one (field .one)
-    → w ≡ tableWords (2 ^ entries ps) (λ y. field .mul (fromWords one) (eqBy order (pointOf ps) y))
-    → (Accepted ≡ tableAnswer ps out) × (w ≡ equalityOut order ps out)
-filled order ps out one e h q = answered order ps out e (q ∙ unscaled _ (eqBy order (pointOf ps)) one h)
+pub filled : (order : BitOrder) (ps out : List ℕ) {t : Verdict} (one : Element) {w : List ℕ} → t ≡ Accepted → answer t ≡ tableAnswer ps out
+    → Holds one (field .one) → w ≡ tableWords (2 ^ entries ps) (λ y. field .mul (fromWords one) (eqBy order (pointOf ps) y))
+    → (0 ≡ tableAnswer ps out) × (w ≡ equalityOut order ps out)
+filled order ps out one e h b q = answered order ps out e h (q ∙ unscaled _ (eqBy order (pointOf ps)) one b)

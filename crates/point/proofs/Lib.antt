@@ -6,4 +6,5 @@ mod Filling
 pub mod EqualityOutcomes
 mod Pairs
 mod PairOutcomes
+pub mod Answers
 mod Selecting

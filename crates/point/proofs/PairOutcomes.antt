@@ -1,60 +1,57 @@
 -- What the lists of tests of `eval_eq`, `eval_next` and `eval_select` give. Assumes nothing.
 use mathlib.Core.Path.{_≡_}
-use mathlib.Core.Bool.{false}
 use Prim.Native.Nat.{ℕ, _<_}
 use mathlib.Core.List.{List}
-use lib.Dec.{leb}
 use borrow.Author.Tests.{leb-false}
-use Rattle.algebra.specs.Words.{unreduced}
 use Rattle.multilinear.specs.Successors.{evalNext}
 use Rattle.multilinear.specs.Beside.{evalEq}
 use Rattle.field.specs.Field.{p, field, valueOf, Holds}
 use Rattle.field.specs.declared.Element.{Element}
 use Rattle.field.specs.declared.Value.{Value}
 use Rattle.table.specs.Table.{elements, entries}
-use Rattle.table.specs.Refusals.{verdict, splits, tooMany}
+use Rattle.table.specs.Refusals.{answer, Outcome, outcome, verdict, given}
 use Rattle.table.specs.declared.Refusal.{Refusal}
+use Rattle.table.specs.declared.Verdict.{Verdict}
 use Rattle.table.specs.declared.Verdict.the-variants.{Accepted, Refused}
 use Rattle.table.specs.declared.Evaluation.the-variants as evaluation
-use Rattle.table.proofs.Tests.{same, or-none}
+use Rattle.table.proofs.Tests.{same}
+use Rattle.table.proofs.Answers.{answer-as}
 use Rattle.table.proofs.Verdicts.{Clear, clear}
-use Rattle.table.proofs.Outcomes.{evaluated-as}
-use Rattle.point.specs.declared.next.Next.{Next}
+use Rattle.table.proofs.Outcomes.{given-none, evaluated-as}
 use Rattle.point.specs.declared.next.Next.the-variants as next
-use Rattle.point.specs.Point.{pairTests, selectTests, nextParts, evalEqAnswer, evalNextAnswer}
+use Rattle.point.specs.Point.{pairTests, selectTests, nextOutcome, partWords, evalEqAnswer, evalNextAnswer}
 use Rattle.point.specs.Inner.{Coordinates}
 use Rattle.point.proofs.Coordinates.{coordinates}
 
 module _ (ps rs : List ℕ) where
-  same-count : Accepted ≡ verdict (pairTests ps rs) → entries ps ≡ entries rs
-  same-count e = same (entries ps) (entries rs) (clear (pairTests ps rs) e .1 .1 .0)
+  same-count : 0 ≡ verdict (pairTests ps rs) → entries ps ≡ entries rs
+  same-count e = same (entries ps) (entries rs) (clear (pairTests ps rs) tt e .1 .1 .1 .1 .0)
 
-  pub tested : Accepted ≡ verdict (pairTests ps rs) → Coordinates (entries ps) ps × Coordinates (entries ps) rs
+  pub tested : 0 ≡ verdict (pairTests ps rs) → Coordinates (entries ps) ps × Coordinates (entries ps) rs
   tested e =
-      let h : Clear (pairTests ps rs) = clear (pairTests ps rs) e in
-      let w : (splits ps ≡ false) × (splits rs ≡ false) = or-none (splits ps) (splits rs) (h .0) in
-      let m : (tooMany ps ≡ false) × (tooMany rs ≡ false) = or-none (tooMany ps) (tooMany rs) (h .1 .0) in
-      let u : (unreduced p ps ≡ false) × (unreduced p rs ≡ false) = or-none (unreduced p ps) (unreduced p rs) (h .1 .1 .1 .0) in
-      (coordinates ps (w .0) (m .0) (u .0), rw (same-count e) (coordinates rs (w .1) (m .1) (u .1)))
+      let h : Clear (pairTests ps rs) = clear (pairTests ps rs) tt e in
+      let few = h .1 .1 in
+      let below = few .1 .1 .1 in
+      (coordinates ps (h .0) (few .0) (below .0), rw (same-count e) (coordinates rs (h .1 .0) (few .1 .0) (below .1 .0)))
 
-  pub eq-given : Accepted ≡ verdict (pairTests ps rs) → (e : Element) {a : Value}
-      → Holds e (evalEq field (elements ps 0 (entries ps)) (elements rs 0 (entries ps))) → a ≡ valueOf e
-      → evaluation.Value a ≡ evalEqAnswer ps rs
-  unfolding evalEqAnswer
-  eq-given h e b q = evaluated-as _ e h (rw (← same-count h) b) q
+  module _ {t : Verdict} (e : t ≡ Accepted) (h : answer t ≡ verdict (pairTests ps rs)) where
+    pub eq-given : (x : Element) {a : Value} → Holds x (evalEq field (elements ps 0 (entries ps)) (elements rs 0 (entries ps)))
+        → a ≡ valueOf x → outcome (evaluation.Value a) ≡ evalEqAnswer ps rs
+    unfolding evalEqAnswer
+    eq-given x b q = evaluated-as _ x e h (rw (← same-count (answer-as e h)) b) q
 
-  pub next-given : {n : Next} → Accepted ≡ verdict (pairTests ps rs)
-      → n ≡ nextParts Accepted (evalNext field (elements ps 0 (entries ps)) (elements rs 0 (entries ps))) → n ≡ evalNextAnswer ps rs
+    pub next-given : {o : Outcome} → o ≡ given 0 (partWords (evalNext field (elements ps 0 (entries ps)) (elements rs 0 (entries ps))))
+        → o ≡ evalNextAnswer ps rs
+    unfolding evalNextAnswer
+    next-given f = rw (← answer-as e h, ← same-count (answer-as e h)) f
+
+  pub next-refused : {r : Refusal} {t : Verdict} → t ≡ Refused r → answer t ≡ verdict (pairTests ps rs)
+      → nextOutcome (next.Refused r) ≡ evalNextAnswer ps rs
   unfolding evalNextAnswer
-  next-given h f = rw (← h, ← same-count h) f
-
-  pub next-refused : (r : Refusal) → Refused r ≡ verdict (pairTests ps rs) → next.Refused r ≡ evalNextAnswer ps rs
-  unfolding evalNextAnswer
-  next-refused r h = rw (← h)
+  next-refused e h = given-none _ e h
 
 module _ (var : ℕ) (ps : List ℕ) where
-  pub select-tested : Accepted ≡ verdict (selectTests var ps) → (var < p) × Coordinates (entries ps) ps
+  pub select-tested : 0 ≡ verdict (selectTests var ps) → (var < p) × Coordinates (entries ps) ps
   select-tested e =
-      let h : Clear (selectTests var ps) = clear (selectTests var ps) e in
-      let u : (unreduced p ps ≡ false) × (leb p var ≡ false) = or-none (unreduced p ps) (leb p var) (h .1 .1 .0) in
-      (leb-false p var (u .1), coordinates ps (h .0) (h .1 .0) (u .0))
+      let h : Clear (selectTests var ps) = clear (selectTests var ps) tt e in
+      (leb-false p var (h .1 .1 .1 .0), coordinates ps (h .0) (h .1 .0) (h .1 .1 .0))

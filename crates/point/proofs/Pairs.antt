@@ -1,21 +1,22 @@
 -- The loops of `agreements` and `next_parts`, from the last pair of coordinates back to coordinate 0. Assumes nothing.
 use mathlib.Core.Path.{_≡_}
-use Prim.Native.Nat.{ℕ, suc, _-_, _≤_, _<_}
+use Prim.Native.Nat.{ℕ, _-_, _≤_, _<_}
 use native.Mathlib.Omega.{arith}
-use mathlib.Core.List.{List, [], _∷_}
+use mathlib.Core.List.{List, [], _∷_, _++_}
 use Rattle.algebra.specs.Ring.{Ops, minus}
 use Rattle.algebra.proofs.Reading.{reading, ring}
 use Rattle.multilinear.specs.Equality.{agreement}
-use Rattle.multilinear.specs.Successors.{NextParts, evalNext, doneStep, carryStep, omegaStep}
+use Rattle.multilinear.specs.Successors.{NextParts, evalNext, doneStep, carryStep}
 use Rattle.multilinear.specs.Beside.{evalEq}
 use Rattle.field.specs.Field.{Ext, field, fromWords, valueOf, Holds}
 use Rattle.field.specs.declared.Element.{Element}
 use Rattle.field.specs.declared.Value.{Value}
 use Rattle.field.proofs.Laws.{field-ring, read-as}
 use Rattle.table.specs.Table.{elementAt, elements}
-use Rattle.table.specs.declared.Verdict.the-variants.{Accepted}
+use Rattle.table.specs.Refusals.{given}
+use Rattle.table.proofs.Outcomes.{value-words}
 use Rattle.point.specs.declared.next.Next.the-variants as next
-use Rattle.point.specs.Point.{nextParts}
+use Rattle.point.specs.Point.{nextOutcome, partWords}
 use Rattle.point.proofs.Rest.{rest, rest-none, rest-more, rest-all}
 
 -- what is settled and what is carried, by the product of a pair
@@ -88,12 +89,16 @@ module _ (ps rs : List ℕ) (k j : ℕ) (h : 0 < j) {s t : Element}
         omega-is = rw (p, r) (rw (read-as _ b, read-as _ e₁, read-as _ e₂, read-as _ (d .omega-is)) at e₅);
       }
 
+joined : {a b c a′ b′ c′ : List ℕ} → a ≡ a′ → b ≡ b′ → c ≡ c′ → given 0 (a ++ b ++ c) ≡ given 0 (a′ ++ b′ ++ c′)
+joined e₁ e₂ e₃ = rw (e₁, e₂, e₃)
+
 module _ (ps rs : List ℕ) (k j : ℕ) (z : j ≡ 0) where
   pub agreed-finish : {product : Element} → Agreed ps rs k j product → Holds product (evalEq field (elements ps 0 k) (elements rs 0 k))
   agreed-finish d = rw (rest-all ps k j z, rest-all rs k j z) at (d .product-is)
 
   pub next-finish : {carry done last : Element} → Nexting ps rs k j carry done last
       → {a b c : Value} → a ≡ valueOf carry → b ≡ valueOf done → c ≡ valueOf last
-      → next.Parts a b c ≡ nextParts Accepted (evalNext field (elements ps 0 k) (elements rs 0 k))
+      → nextOutcome (next.Parts a b c) ≡ given 0 (partWords (evalNext field (elements ps 0 k) (elements rs 0 k)))
   next-finish d e₁ e₂ e₃ =
-      rw (e₁, e₂, e₃, d .carry-is .words, d .done-is .words, d .omega-is .words, rest-all ps k j z, rest-all rs k j z)
+      rw (← rest-all ps k j z, ← rest-all rs k j z)
+      (joined (value-words _ (d .carry-is) e₁) (value-words _ (d .done-is) e₂) (value-words _ (d .omega-is) e₃))

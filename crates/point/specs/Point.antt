@@ -1,37 +1,32 @@
 -- Operations on points alone (document 01, "Points and equality", "Successors", "Beside these", and their refused calls). Assumes nothing.
-use mathlib.Core.Path.{_≡_}
 use Prim.Native.Nat.{ℕ, _^_}
-use mathlib.Core.Bool.{not, _||_}
-use mathlib.Core.List.{List, [], _∷_}
+use mathlib.Core.Bool.{not}
+use mathlib.Core.List.{List, [], _∷_, _++_}
 use lib.Dec.{eqb, leb}
 use Rattle.algebra.specs.Ring.{Ops}
-use Rattle.algebra.specs.Words.{unreduced}
+use Rattle.algebra.specs.Words.{wordsOf, unreduced}
 use Rattle.multilinear.specs.Equality.{eqAt, eqLsbAt}
 use Rattle.multilinear.specs.Successors.{NextParts, evalNext}
 use Rattle.multilinear.specs.Beside.{evalEq, evalSelect}
-use Rattle.field.specs.Field.{p, Ext, field, base, toValue}
+use Rattle.field.specs.Field.{p, Ext, field, base}
 use Rattle.table.specs.Table.{tableWords, entries, pointOf}
-use Rattle.table.specs.Refusals.{Test, _gives_, verdict, leaves, evaluated, splits, tooMany, rowsDiffer}
-use Rattle.table.specs.declared.Refusal.the-variants.{Split, TooMany, Lengths, Unreduced, NoVertex}
-use Rattle.table.specs.declared.Verdict.{Verdict}
-use Rattle.table.specs.declared.Verdict.the-variants.{Accepted, Refused}
-use Rattle.table.specs.declared.Evaluation.{Evaluation}
+use Rattle.table.specs.Refusals.{number, Outcome, valueWords, Test, _gives_, verdict, leaves, given, evaluated, splits, tooMany, rowsDiffer}
 use Rattle.point.specs.declared.equality.BitOrder.{BitOrder}
 use Rattle.point.specs.declared.equality.BitOrder.the-variants.{Msb, Lsb}
 use Rattle.point.specs.declared.next.Next.{Next}
 use Rattle.point.specs.declared.next.Next.the-variants as next
 
--- Vertex: 1, 3, 5, 7
+-- Vertex: 1, 3, 5, 7 (vertex at or above 2^k)
 abbrev pub vertexTests : List ℕ → ℕ → List Test
-vertexTests point y =
-    (splits point gives Split)
-    ∷ (tooMany point gives TooMany)
-    ∷ (unreduced p point gives Unreduced)
-    ∷ (leb (2 ^ entries point) y gives NoVertex)
+vertexTests point vertex =
+    splits point gives 1
+    ∷ tooMany point gives 3
+    ∷ unreduced p point gives 5
+    ∷ leb (2 ^ entries point) vertex gives 7
     ∷ []
 
 -- `equality_at_vertex` gives eq[y]
-unfoldable pub vertexAnswer : List ℕ → ℕ → Evaluation
+unfoldable pub vertexAnswer : List ℕ → ℕ → Outcome
 vertexAnswer point y = evaluated (verdict (vertexTests point y)) (eqAt field (pointOf point) y)
 
 -- eq in a bit order: Msb has coordinate 0 with the highest bit, Lsb with the lowest
@@ -42,14 +37,15 @@ eqBy Lsb zs y = eqLsbAt field zs y
 -- Equality and next tables: 1, 3, 4 (out), 5
 abbrev pub tableTests : List ℕ → List ℕ → List Test
 tableTests point out =
-    (splits point || splits out gives Split)
-    ∷ (tooMany point gives TooMany)
-    ∷ (rowsDiffer out (entries point) gives Lengths)
-    ∷ (unreduced p point gives Unreduced)
+    splits point gives 1
+    ∷ splits out gives 1
+    ∷ tooMany point gives 3
+    ∷ rowsDiffer out (entries point) gives 4
+    ∷ unreduced p point gives 5
     ∷ []
 
 -- `equality_table`: the answer, and out
-unfoldable pub tableAnswer : List ℕ → List ℕ → Verdict
+unfoldable pub tableAnswer : List ℕ → List ℕ → ℕ
 tableAnswer point out = verdict (tableTests point out)
 
 unfoldable pub equalityOut : BitOrder → List ℕ → List ℕ → List ℕ
@@ -58,27 +54,33 @@ equalityOut order point out = leaves (tableAnswer point out) (tableWords (2 ^ en
 -- `eval_eq`, `eval_next`: 1, 3, 4, 5
 abbrev pub pairTests : List ℕ → List ℕ → List Test
 pairTests point row =
-    (splits point || splits row gives Split)
-    ∷ (tooMany point || tooMany row gives TooMany)
-    ∷ (not (eqb (entries point) (entries row)) gives Lengths)
-    ∷ (unreduced p point || unreduced p row gives Unreduced)
+    splits point gives 1
+    ∷ splits row gives 1
+    ∷ tooMany point gives 3
+    ∷ tooMany row gives 3
+    ∷ not (eqb (entries point) (entries row)) gives 4
+    ∷ unreduced p point gives 5
+    ∷ unreduced p row gives 5
     ∷ []
 
-unfoldable pub evalEqAnswer : List ℕ → List ℕ → Evaluation
+unfoldable pub evalEqAnswer : List ℕ → List ℕ → Outcome
 evalEqAnswer point row = evaluated (verdict (pairTests point row)) (evalEq field (pointOf point) (pointOf row))
 
--- carry, done and omega
-abbrev pub nextParts : Verdict → NextParts Ext → Next
-nextParts Accepted x = next.Parts (toValue (x .carry)) (toValue (x .done)) (toValue (x .omega))
-nextParts (Refused r) x = next.Refused r
+-- number and words of a `Next`
+abbrev pub nextOutcome : Next → Outcome
+nextOutcome (next.Parts carry done omega) = record { number = 0; words = valueWords carry ++ valueWords done ++ valueWords omega }
+nextOutcome (next.Refused r) = record { number = number r; words = [] }
 
-unfoldable pub evalNextAnswer : List ℕ → List ℕ → Next
-evalNextAnswer point row = nextParts (verdict (pairTests point row)) (evalNext field (pointOf point) (pointOf row))
+-- carry, done and omega
+abbrev pub partWords : NextParts Ext → List ℕ
+partWords x = wordsOf (x .carry) ++ wordsOf (x .done) ++ wordsOf (x .omega)
+
+unfoldable pub evalNextAnswer : List ℕ → List ℕ → Outcome
+evalNextAnswer point row = given (verdict (pairTests point row)) (partWords (evalNext field (pointOf point) (pointOf row)))
 
 -- `eval_select`: 1, 3, 5
 abbrev pub selectTests : ℕ → List ℕ → List Test
-selectTests var point =
-    (splits point gives Split) ∷ (tooMany point gives TooMany) ∷ (unreduced p point || leb p var gives Unreduced) ∷ []
+selectTests var point = splits point gives 1 ∷ tooMany point gives 3 ∷ unreduced p point gives 5 ∷ leb p var gives 5 ∷ []
 
-unfoldable pub evalSelectAnswer : ℕ → List ℕ → Evaluation
+unfoldable pub evalSelectAnswer : ℕ → List ℕ → Outcome
 evalSelectAnswer var point = evaluated (verdict (selectTests var point)) (evalSelect field (base var) (pointOf point))

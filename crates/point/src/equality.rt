@@ -5,13 +5,13 @@ use table::Evaluation;
 use table::Refusal;
 use table::Verdict;
 ghost use mathlib.Core.Path.{_≡_};
-ghost use Prim.Native.Nat.{ℕ, _+_, _*_, _^_, _≤_, _<_};
+ghost use Prim.Native.Nat.{_+_, _*_, _^_, _<_};
 ghost use lib.Dec.{leb};
 ghost use Rattle.algebra.specs.Ring.{Ops};
 ghost use Rattle.multilinear.specs.Equality.{forBit, eqAt};
 ghost use Rattle.field.specs.Field.{field, fromWords, Reduced, Holds};
 ghost use Rattle.table.specs.Table.{tableWords, elements};
-ghost use Rattle.table.specs.Refusals.{verdict};
+ghost use Rattle.table.specs.Refusals.{answer, outcome, verdict};
 ghost use Rattle.point.specs.declared.equality.BitOrder.the-variants.{Msb, Lsb};
 ghost use Rattle.point.specs.Point.{vertexTests, vertexAnswer, tableAnswer, equalityOut, eqBy};
 ghost use Rattle.point.specs.Inner.{Coordinates, entering, Doubled, Doubles, Fits, Follows};
@@ -26,7 +26,7 @@ pub enum BitOrder {
 
 // eq[vertex].
 pub fn equality_at_vertex(point: &[u32], vertex: usize) -> Evaluation
-    ensures { λ r. ⌜ r ≡ vertexAnswer (now (point .entry)) vertex ⌝ }
+    ensures { λ r. ⌜ outcome r ≡ vertexAnswer (now (point .entry)) vertex ⌝ }
 {
     let tested = test_vertex(point, vertex);
     match tested {
@@ -37,7 +37,7 @@ pub fn equality_at_vertex(point: &[u32], vertex: usize) -> Evaluation
 
 // out becomes the table of eq.
 pub fn equality_table(point: &[u32], order: BitOrder, out: &mut [u32]) -> Verdict
-    ensures { λ r. ⌜ r ≡ tableAnswer (now (point .entry)) (now (out .entry)) ⌝ }
+    ensures { λ r. ⌜ answer r ≡ tableAnswer (now (point .entry)) (now (out .entry)) ⌝ }
     ensures { λ _. ⌜ now (out .exit) ≡ equalityOut order (now (point .entry)) (now (out .entry)) ⌝ }
 {
     let tested = test_table(point, out);
@@ -51,37 +51,36 @@ pub fn equality_table(point: &[u32], order: BitOrder, out: &mut [u32]) -> Verdic
 }
 
 pub fn equality_weights_msb(point: &[u32], out: &mut [u32]) -> Verdict
-    ensures { λ r. ⌜ r ≡ tableAnswer (now (point .entry)) (now (out .entry)) ⌝ }
+    ensures { λ r. ⌜ answer r ≡ tableAnswer (now (point .entry)) (now (out .entry)) ⌝ }
     ensures { λ _. ⌜ now (out .exit) ≡ equalityOut Msb (now (point .entry)) (now (out .entry)) ⌝ }
 {
     equality_table(point, BitOrder::Msb, out)
 }
 
 pub fn equality_weights_lsb(point: &[u32], out: &mut [u32]) -> Verdict
-    ensures { λ r. ⌜ r ≡ tableAnswer (now (point .entry)) (now (out .entry)) ⌝ }
+    ensures { λ r. ⌜ answer r ≡ tableAnswer (now (point .entry)) (now (out .entry)) ⌝ }
     ensures { λ _. ⌜ now (out .exit) ≡ equalityOut Lsb (now (point .entry)) (now (out .entry)) ⌝ }
 {
     equality_table(point, BitOrder::Lsb, out)
 }
 
 fn test_vertex(point: &[u32], vertex: usize) -> Verdict
-    ensures { λ r. ⌜ r ≡ verdict (vertexTests (now (point .entry)) vertex) ⌝ }
+    ensures { λ r. ⌜ answer r ≡ verdict (vertexTests (now (point .entry)) vertex) ⌝ }
 {
-    let beyond = is_beyond(vertex, point.len() / 4);
     Verdict::Accepted
         .refuse_if(table::splits(point), Refusal::Split)
         .refuse_if(table::too_many(point), Refusal::TooMany)
         .refuse_if(field::unreduced(point), Refusal::Unreduced)
-        .refuse_if(beyond, Refusal::NoVertex)
+        .refuse_if(is_beyond(vertex, point.len() / 4), Refusal::NoVertex)
 }
 
 // The tests of every table of a point.
 pub fn test_table(point: &[u32], out: &[u32]) -> Verdict
-    ensures { λ r. ⌜ r ≡ tableAnswer (now (point .entry)) (now (out .entry)) ⌝ }
+    ensures { λ r. ⌜ answer r ≡ tableAnswer (now (point .entry)) (now (out .entry)) ⌝ }
 {
-    let split = table::either(table::splits(point), table::splits(out));
     Verdict::Accepted
-        .refuse_if(split, Refusal::Split)
+        .refuse_if(table::splits(point), Refusal::Split)
+        .refuse_if(table::splits(out), Refusal::Split)
         .refuse_if(table::too_many(point), Refusal::TooMany)
         .refuse_if(table::rows_differ(out, point.len() / 4), Refusal::Lengths)
         .refuse_if(field::unreduced(point), Refusal::Unreduced)

@@ -11,9 +11,8 @@ ghost use Rattle.multilinear.specs.Successors.{evalNext, doneStep};
 ghost use Rattle.multilinear.specs.Beside.{evalEq};
 ghost use Rattle.field.specs.Field.{field, fromWords, Reduced, Holds};
 ghost use Rattle.table.specs.Table.{elements};
-ghost use Rattle.table.specs.Refusals.{verdict};
-ghost use Rattle.table.specs.declared.Verdict.the-variants.{Accepted};
-ghost use Rattle.point.specs.Point.{pairTests, evalEqAnswer, evalNextAnswer, nextParts};
+ghost use Rattle.table.specs.Refusals.{answer, outcome, given, verdict};
+ghost use Rattle.point.specs.Point.{pairTests, evalEqAnswer, evalNextAnswer, nextOutcome, partWords};
 ghost use Rattle.point.specs.Inner.{Coordinates, Paired};
 
 pub enum Next {
@@ -27,7 +26,7 @@ pub enum Next {
 
 // The product of 2pq - p - q + 1 over the pairs of coordinates.
 pub fn eval_eq(point: &[u32], row: &[u32]) -> Evaluation
-    ensures { λ r. ⌜ r ≡ evalEqAnswer (now (point .entry)) (now (row .entry)) ⌝ }
+    ensures { λ r. ⌜ outcome r ≡ evalEqAnswer (now (point .entry)) (now (row .entry)) ⌝ }
 {
     let tested = test_pair(point, row);
     match tested {
@@ -38,7 +37,7 @@ pub fn eval_eq(point: &[u32], row: &[u32]) -> Evaluation
 
 // carry, done and omega of two points.
 pub fn eval_next(point: &[u32], row: &[u32]) -> Next
-    ensures { λ r. ⌜ r ≡ evalNextAnswer (now (point .entry)) (now (row .entry)) ⌝ }
+    ensures { λ r. ⌜ nextOutcome r ≡ evalNextAnswer (now (point .entry)) (now (row .entry)) ⌝ }
 {
     let tested = test_pair(point, row);
     match tested {
@@ -48,16 +47,16 @@ pub fn eval_next(point: &[u32], row: &[u32]) -> Next
 }
 
 fn test_pair(point: &[u32], row: &[u32]) -> Verdict
-    ensures { λ r. ⌜ r ≡ verdict (pairTests (now (point .entry)) (now (row .entry))) ⌝ }
+    ensures { λ r. ⌜ answer r ≡ verdict (pairTests (now (point .entry)) (now (row .entry))) ⌝ }
 {
-    let split = table::either(table::splits(point), table::splits(row));
-    let many = table::either(table::too_many(point), table::too_many(row));
-    let unreduced = table::either(field::unreduced(point), field::unreduced(row));
     Verdict::Accepted
-        .refuse_if(split, Refusal::Split)
-        .refuse_if(many, Refusal::TooMany)
+        .refuse_if(table::splits(point), Refusal::Split)
+        .refuse_if(table::splits(row), Refusal::Split)
+        .refuse_if(table::too_many(point), Refusal::TooMany)
+        .refuse_if(table::too_many(row), Refusal::TooMany)
         .refuse_if(table::lengths_differ(point, row), Refusal::Lengths)
-        .refuse_if(unreduced, Refusal::Unreduced)
+        .refuse_if(field::unreduced(point), Refusal::Unreduced)
+        .refuse_if(field::unreduced(row), Refusal::Unreduced)
 }
 
 fn agreements(point: &[u32], row: &[u32], k: usize) -> Element
@@ -79,7 +78,7 @@ fn agreements(point: &[u32], row: &[u32], k: usize) -> Element
 // pair.
 fn next_parts(point: &[u32], row: &[u32], k: usize) -> Next
     requires { ⌜ Coordinates k (now point) × Coordinates k (now row) ⌝ }
-    ensures { λ r. ⌜ r ≡ nextParts Accepted (evalNext field (elements (now (point .entry)) 0 k) (elements (now (row .entry)) 0 k)) ⌝ }
+    ensures { λ r. ⌜ nextOutcome r ≡ given 0 (partWords (evalNext field (elements (now (point .entry)) 0 k) (elements (now (row .entry)) 0 k))) ⌝ }
 {
     let mut carry = Element::one();
     let mut done = Element::zero();

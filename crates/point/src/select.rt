@@ -9,13 +9,13 @@ ghost use Rattle.algebra.specs.Ring.{Ops, minus};
 ghost use Rattle.multilinear.specs.Beside.{evalSelect};
 ghost use Rattle.field.specs.Field.{p, field, base, fromWords, Reduced, Holds};
 ghost use Rattle.table.specs.Table.{elements};
-ghost use Rattle.table.specs.Refusals.{verdict};
+ghost use Rattle.table.specs.Refusals.{answer, outcome, verdict};
 ghost use Rattle.point.specs.Point.{selectTests, evalSelectAnswer};
 ghost use Rattle.point.specs.Inner.{Coordinates};
 
 // The sum of eq[y] var^y.
 pub fn eval_select(var: u32, point: &[u32]) -> Evaluation
-    ensures { λ r. ⌜ r ≡ evalSelectAnswer var (now (point .entry)) ⌝ }
+    ensures { λ r. ⌜ outcome r ≡ evalSelectAnswer var (now (point .entry)) ⌝ }
 {
     let tested = test_select(var, point);
     match tested {
@@ -25,13 +25,13 @@ pub fn eval_select(var: u32, point: &[u32]) -> Evaluation
 }
 
 fn test_select(var: u32, point: &[u32]) -> Verdict
-    ensures { λ r. ⌜ r ≡ verdict (selectTests var (now (point .entry))) ⌝ }
+    ensures { λ r. ⌜ answer r ≡ verdict (selectTests var (now (point .entry))) ⌝ }
 {
-    let unreduced = table::either(field::unreduced(point), Element::MODULUS <= var);
     Verdict::Accepted
         .refuse_if(table::splits(point), Refusal::Split)
         .refuse_if(table::too_many(point), Refusal::TooMany)
-        .refuse_if(unreduced, Refusal::Unreduced)
+        .refuse_if(field::unreduced(point), Refusal::Unreduced)
+        .refuse_if(Element::MODULUS <= var, Refusal::Unreduced)
 }
 
 // A factor for each coordinate, from the last back to coordinate 0, while var is squared.

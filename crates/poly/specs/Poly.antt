@@ -1,6 +1,5 @@
 -- Tables made from a point (document 01, "Points and equality": `new_from_point`; "Successors": `new_next_from_point`). Assumes nothing.
 use Prim.Native.Nat.{ℕ, _^_}
-use mathlib.Core.Bool.{_||_}
 use mathlib.Core.List.{List, [], _∷_}
 use Rattle.algebra.specs.Words.{unreduced}
 use Rattle.multilinear.specs.Equality.{eqAt}
@@ -9,21 +8,21 @@ use Rattle.field.specs.Field.{p, field, fromWords}
 use Rattle.field.specs.declared.Element.{Element}
 use Rattle.table.specs.Table.{tableWords, entries, pointOf}
 use Rattle.table.specs.Refusals.{Test, _gives_, verdict, leaves, splits, tooMany, rowsDiffer}
-use Rattle.table.specs.declared.Refusal.the-variants.{Split, TooMany, Lengths, Unreduced}
-use Rattle.table.specs.declared.Verdict.{Verdict}
 use Rattle.point.specs.Point.{tableAnswer}
 
 -- Equality tables with a scale: 1, 3, 4 (out), 5
 abbrev pub scaledTests : List ℕ → Element → List ℕ → List Test
 scaledTests point scale out =
-    (splits point || splits out gives Split)
-    ∷ (tooMany point gives TooMany)
-    ∷ (rowsDiffer out (entries point) gives Lengths)
-    ∷ (unreduced p point || unreduced p (scale .c) gives Unreduced)
+    splits point gives 1
+    ∷ splits out gives 1
+    ∷ tooMany point gives 3
+    ∷ rowsDiffer out (entries point) gives 4
+    ∷ unreduced p point gives 5
+    ∷ unreduced p (scale .c) gives 5
     ∷ []
 
 -- `new_from_point` gives scale·eq
-unfoldable pub newAnswer : List ℕ → Element → List ℕ → Verdict
+unfoldable pub newAnswer : List ℕ → Element → List ℕ → ℕ
 newAnswer point scale out = verdict (scaledTests point scale out)
 
 unfoldable pub newOut : List ℕ → Element → List ℕ → List ℕ

@@ -10,12 +10,13 @@ ghost use Prim.Native.Nat.{_*_, _≤_};
 ghost use lib.ListN.{length};
 ghost use Rattle.poly.specs.Poly.{newAnswer, newOut, nextOut};
 ghost use Rattle.table.specs.Table.{tableWords, elementAt};
+ghost use Rattle.table.specs.Refusals.{answer};
 ghost use Rattle.point.specs.Point.{tableAnswer};
 ghost use Rattle.poly.specs.Inner.{Shifted, Weights, successorAt};
 
 // out becomes the table of scale eq.
 pub fn new_from_point(point: &[u32], scale: Element, out: &mut [u32]) -> Verdict
-    ensures { λ r. ⌜ r ≡ newAnswer (now (point .entry)) scale (now (out .entry)) ⌝ }
+    ensures { λ r. ⌜ answer r ≡ newAnswer (now (point .entry)) scale (now (out .entry)) ⌝ }
     ensures { λ _. ⌜ now (out .exit) ≡ newOut (now (point .entry)) scale (now (out .entry)) ⌝ }
 {
     let tested = test_scaled(point, scale, out);
@@ -32,7 +33,7 @@ pub fn new_from_point(point: &[u32], scale: Element, out: &mut [u32]) -> Verdict
 //
 //     [ eq0, eq1, .., eq_{N-1} ]  ->  [ 0, eq0, .., eq_{N-2} + eq_{N-1} ]
 pub fn new_next_from_point(point: &[u32], out: &mut [u32]) -> Verdict
-    ensures { λ r. ⌜ r ≡ tableAnswer (now (point .entry)) (now (out .entry)) ⌝ }
+    ensures { λ r. ⌜ answer r ≡ tableAnswer (now (point .entry)) (now (out .entry)) ⌝ }
     ensures { λ _. ⌜ now (out .exit) ≡ nextOut (now (point .entry)) (now (out .entry)) ⌝ }
 {
     let tested = point::equality::test_table(point, out);
@@ -48,16 +49,16 @@ pub fn new_next_from_point(point: &[u32], out: &mut [u32]) -> Verdict
 }
 
 fn test_scaled(point: &[u32], scale: Element, out: &[u32]) -> Verdict
-    ensures { λ r. ⌜ r ≡ newAnswer (now (point .entry)) scale (now (out .entry)) ⌝ }
+    ensures { λ r. ⌜ answer r ≡ newAnswer (now (point .entry)) scale (now (out .entry)) ⌝ }
 {
-    let split = table::either(table::splits(point), table::splits(out));
     let words = scale.c;
-    let unreduced = table::either(field::unreduced(point), field::unreduced(&words));
     Verdict::Accepted
-        .refuse_if(split, Refusal::Split)
+        .refuse_if(table::splits(point), Refusal::Split)
+        .refuse_if(table::splits(out), Refusal::Split)
         .refuse_if(table::too_many(point), Refusal::TooMany)
         .refuse_if(table::rows_differ(out, point.len() / 4), Refusal::Lengths)
-        .refuse_if(unreduced, Refusal::Unreduced)
+        .refuse_if(field::unreduced(point), Refusal::Unreduced)
+        .refuse_if(field::unreduced(&words), Refusal::Unreduced)
 }
 
 // The n weights of out, each a row further, and the last once more.

@@ -19,8 +19,9 @@ use Rattle.session.proofs.Joining.{gain, place-joined, place-empty}
 use Rattle.frame.specs.Frame.{coordinatesOf, indexOf, coordinateOf, wordsOf}
 use Rattle.frames.specs.declared.Phase.the-variants as phase
 use Rattle.frames.specs.Reader.{mostPlaces, used, started, opened, withCoordinates}
+use Rattle.frames.proofs.Accepted.{Opens}
 use Rattle.runs.specs.Runs.{State, start, wordsBy, isOpened, isSettled, argsOf}
-use Rattle.runs.proofs.Steps.{never, Opens, Keeps}
+use Rattle.runs.proofs.Steps.{never, Keeps}
 use Rattle.runs.proofs.Points.{Shaped, shaped-zeros, shaped-put, front-point, places-are}
 use Rattle.runs.proofs.Counted.{Counted, counted-start, counted-keeps}
 
@@ -75,7 +76,7 @@ opened-folds : (bs out : List ℕ) → Opens bs → length out ≡ 4 * 2 ^ mostP
 opened-folds bs out h l =
     let fits : 2 ^ (opened bs .session .n - opened bs .session .k) ≤ 2 ^ mostPlaces = pow-mono (h .few) in
     take-zeros (used (opened bs)) (length out) (omega arith)
-    ∙ sym (none-folded (opened bs .session) (shaped-zeros (opened bs .session .k) (h .small)))
+    ∙ sym (none-folded (opened bs .session) (shaped-zeros (opened bs .session .k) (h .narrow)))
 
 -- at `02` another coordinate is put, and nothing was folded yet
 put-folds : (s : State) (ws : List ℕ) → Folded s ws → s .reader .phase ≡ phase.Points → (i : ℕ) (e : Element)
@@ -102,7 +103,7 @@ folded-keeps =
       opens = λ s bs ws i e h.
           record {
             counted = counted-keeps .opens s bs ws (i .counted) e h;
-            shaped = shaped-zeros (coordinatesOf bs) (h .small);
+            shaped = shaped-zeros (coordinatesOf bs) (h .narrow);
             room = λ q. never q;
             folds = λ q.
                 opened-folds bs (s .out) h (i .room (ap isOpened e))

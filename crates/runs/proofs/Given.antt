@@ -200,7 +200,7 @@ module _ (i : ℕ) where
   given-keeps =
       record {
         opens = λ s bs es d e h.
-            rw (d .none (ap isOpened e)) (fresh (opened bs) (shaped-zeros (coordinatesOf bs) (h .small)) refl refl);
+            rw (d .none (ap isOpened e)) (fresh (opened bs) (shaped-zeros (coordinatesOf bs) (h .narrow)) refl refl);
         puts = λ s bs es d e h. puts (s .reader) bs es d e h;
         strays = λ s bs es d e h. strays (s .reader) bs es d e h;
         takes = λ s bs es d h.

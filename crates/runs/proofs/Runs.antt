@@ -4,11 +4,15 @@ use Prim.Native.Nat.{ℕ, _*_, _^_}
 use mathlib.Core.List.{List, []}
 use lib.ListN.{length}
 use Rattle.frames.specs.Reader.{mostPlaces}
-use Rattle.runs.specs.Runs.{start, after, wordsBy, elementBy, joined, given, Runs}
+use Rattle.runs.specs.Runs.{start, after, openingBy, wordsBy, elementBy, openings, joined, given, Runs}
 use Rattle.runs.proofs.Steps.{lines-keep}
+use Rattle.runs.proofs.Opened.{Opened, opened-start, opened-keeps}
 use Rattle.runs.proofs.Counted.{Counted, counted-start, counted-keeps}
 use Rattle.runs.proofs.Folded.{Folded, folded-start, folded-keeps}
 use Rattle.runs.proofs.Given.{Given, given-start, given-keeps, given-once, given-none}
+
+opened : (ls : List (List ℕ)) (out : List ℕ) → Opened (after ls (start out)) (openings ls (start out))
+opened ls out = lines-keep openingBy Opened opened-keeps openings (λ s. refl) (λ l ls s. refl) ls (start out) [] (opened-start out)
 
 counted : (ls : List (List ℕ)) (out : List ℕ) → Counted (after ls (start out)) (joined ls (start out))
 counted ls out = lines-keep wordsBy Counted counted-keeps joined (λ s. refl) (λ l ls s. refl) ls (start out) [] (counted-start out)
@@ -24,6 +28,8 @@ were-given i ls out =
 pub runs : Runs
 runs =
     record {
+      unopened = λ ls out q. opened ls out .none q;
+      opened-by = λ ls out q. opened ls out .held q;
       folds = λ ls out l q. folded ls out l .folds q;
       takes = λ ls out. counted ls out .count;
       each-once = λ ls out z i h. given-once i _ _ (were-given i ls out) z h;

@@ -1,7 +1,7 @@
 -- What an accepted line says of its tests, by its kind; and what each kind keeps, every list of lines keeps. Assumes nothing.
-use mathlib.Core.Path.{_≡_, refl, sym}
+use mathlib.Core.Path.{_≡_, refl}
 use mathlib.Core.Bool.{Bool, true, false, cond, not, _||_}
-use Prim.Native.Nat.{ℕ, _-_, _≤_, _<_}
+use Prim.Native.Nat.{ℕ, zero, suc, _≤_, _<_}
 use native.Mathlib.Omega.{arith}
 use mathlib.Core.List.{List, [], _∷_, _++_, append-nil, append-assoc}
 use lib.Dec.{ltb}
@@ -9,30 +9,23 @@ use lib.ListN.{length, getD, set, replicate}
 use borrow.Author.Tests.{ltb-true, ltb-false, not-false}
 use Rattle.field.specs.declared.Element.{Element}
 use Rattle.table.specs.Table.{putAt}
-use Rattle.table.specs.Refusals.{_gives_, leaves, most}
-use Rattle.table.specs.declared.Refusal.the-variants.{Closed, NotFrame}
-use Rattle.table.specs.declared.Verdict.{Verdict}
-use Rattle.table.specs.declared.Verdict.the-variants.{Accepted, Refused}
+use Rattle.table.specs.Refusals.{_gives_, leaves}
 use Rattle.table.proofs.Tests.{or-none}
-use Rattle.table.proofs.Verdicts.{Clear, clear}
+use Rattle.table.proofs.Verdicts.{Clear}
 use Rattle.session.specs.declared.Session.{Session}
 use Rattle.frame.specs.declared.Kind.{Kind}
 use Rattle.frame.specs.declared.Kind.the-variants as kind
 use Rattle.frame.specs.Hex.{bytesOf}
-use Rattle.frame.specs.Frame.{kindOf, variablesOf, coordinatesOf, indexOf, coordinateOf}
+use Rattle.frame.specs.Frame.{kindOf, indexOf, coordinateOf}
 use Rattle.frames.specs.declared.Phase.{Phase}
 use Rattle.frames.specs.declared.Phase.the-variants as phase
 use Rattle.frames.specs.declared.Reader.{Reader}
-use Rattle.frames.specs.Reader.{mostPlaces, inPlace, isDone, onceEach, kindTests, openTests, lineTests, lineAnswer, opened, withCoordinates, onceMore, counted, done, taken, outBy, turned, outAfter}
+use Rattle.frames.specs.Reader.{inPlace, isDone, onceEach, kindTests, lineAnswer, opened, withCoordinates, onceMore, counted, done, taken, outBy, turned, outAfter}
+use Rattle.frames.proofs.Accepted.{Opens, open-clear, line-clear}
 use Rattle.runs.specs.Runs.{State, step, after, isOpened, isSettled}
 
 pub never {ℓ} : {A : Type ℓ} → true ≡ false → A
 never e = absurd (let z : _≡_ {A = ℕ} 0 1 = cc in omega arith)
-
--- at `01`
-pub record Opens (bs : List ℕ) : Type 0 where
-  pub small : coordinatesOf bs ≤ most
-  pub few : variablesOf bs - coordinatesOf bs ≤ mostPlaces
 
 -- at `03` and `04`: an `01` came before, and the first of them finds each coordinate given once and none beyond k
 pub record Placed (r : Reader) : Type 0 where
@@ -48,11 +41,6 @@ Says kind.Words r bs = Placed r
 Says kind.Close r bs = Placed r
 Says kind.NoFrame r bs = ⊥
 
-opens : (bs : List ℕ) → Clear (openTests bs) → Opens bs
-opens bs h =
-    let many = or-none (ltb most (variablesOf bs)) (ltb most (coordinatesOf bs)) (h .0) in
-    record { small = ltb-false _ _ (many .1); few = ltb-false _ _ (h .1 .1 .1 .0) }
-
 abbrev reader : Phase → Session → List ℕ → Bool → Reader
 reader ph s given beyond = record { phase = ph; session = s; given = given; beyond = beyond }
 
@@ -67,9 +55,9 @@ placed-before : (s : Session) (given : List ℕ) (beyond : Bool) → Placed (rea
 placed-before s given beyond = record { opened = refl; each = λ e. never e; within = λ e. never e }
 
 says : (ph : Phase) (k : Kind) (s : Session) (given : List ℕ) (beyond : Bool) (bs : List ℕ)
-    → Clear ((isDone ph gives Closed) ∷ (not (inPlace ph k) gives NotFrame) ∷ kindTests k (reader ph s given beyond) bs)
+    → Clear (isDone ph gives 10 ∷ not (inPlace ph k) gives 12 ∷ kindTests k (reader ph s given beyond) bs)
     → Says k (reader ph s given beyond) bs
-says phase.Start kind.Open s given beyond bs h = (refl, opens bs (h .1 .1))
+says phase.Start kind.Open s given beyond bs h = (refl, open-clear bs (h .1 .1))
 says phase.Start kind.Coordinate s given beyond bs h = never (h .1 .0)
 says phase.Start kind.Words s given beyond bs h = never (h .1 .0)
 says phase.Start kind.Close s given beyond bs h = never (h .1 .0)
@@ -86,9 +74,8 @@ says phase.Words kind.Close s given beyond bs h = placed-before s given beyond
 says phase.Words kind.NoFrame s given beyond bs h = never (h .1 .0)
 says phase.Done k s given beyond bs h = never (h .0)
 
-pub accepted : (r : Reader) (bs : List ℕ) → lineAnswer r bs ≡ Accepted → Says (kindOf bs) r bs
-unfolding lineAnswer
-accepted r bs e = says (r .phase) (kindOf bs) (r .session) (r .given) (r .beyond) bs (clear (lineTests r bs) (sym e))
+pub accepted : (r : Reader) (bs : List ℕ) → lineAnswer r bs ≡ 0 → Says (kindOf bs) r bs
+accepted r bs e = says (r .phase) (kindOf bs) (r .session) (r .given) (r .beyond) bs (line-clear r bs e)
 
 abbrev pub state : Reader → List ℕ → State
 state r out = record { reader = r; out = out }
@@ -140,11 +127,11 @@ module _ {A : Type 0} (by : Kind → List ℕ → List A) (Inv : State → List 
   accepted-keeps kind.NoFrame s bs xs h i = absurd h
 
   -- by any line: refused, it changes nothing
-  line-keeps : (v : Verdict) (s : State) (bs : List ℕ) (xs : List A) → (v ≡ Accepted → Says (kindOf bs) (s .reader) bs) → Inv s xs
-      → Inv (state (leaves v (taken (kindOf bs) (s .reader) bs) (s .reader)) (leaves v (outBy (kindOf bs) (s .reader) bs (s .out)) (s .out)))
-      (xs ++ leaves v (by (kindOf bs) bs) [])
-  line-keeps Accepted s bs xs h i = accepted-keeps (kindOf bs) s bs xs (h refl) i
-  line-keeps (Refused r) s bs xs h i = rw append-nil i
+  line-keeps : (n : ℕ) (s : State) (bs : List ℕ) (xs : List A) → (n ≡ 0 → Says (kindOf bs) (s .reader) bs) → Inv s xs
+      → Inv (state (leaves n (taken (kindOf bs) (s .reader) bs) (s .reader)) (leaves n (outBy (kindOf bs) (s .reader) bs (s .out)) (s .out)))
+      (xs ++ leaves n (by (kindOf bs) bs) [])
+  line-keeps zero s bs xs h i = accepted-keeps (kindOf bs) s bs xs (h refl) i
+  line-keeps (suc n) s bs xs h i = rw append-nil i
 
   step-keeps : (l : List ℕ) (s : State) (xs : List A) → Inv s xs → Inv (step l s) (xs ++ brings by l s)
   unfolding turned outAfter

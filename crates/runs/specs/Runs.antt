@@ -5,6 +5,8 @@ use mathlib.Core.Bool.{Bool, true, false, cond}
 use mathlib.Core.List.{List, [], _∷_, _++_}
 use lib.Dec.{eqb}
 use lib.ListN.{length, take}
+use Rattle.multilinear.specs.declared.Side.{Side}
+use Rattle.multilinear.specs.declared.Weight.{Weight}
 use Rattle.field.specs.declared.Element.{Element}
 use Rattle.table.specs.Table.{getAt, tableWords}
 use Rattle.table.specs.Refusals.{leaves}
@@ -14,7 +16,7 @@ use Rattle.session.specs.Ledger.{innerOf, ledgerAt}
 use Rattle.frame.specs.declared.Kind.{Kind}
 use Rattle.frame.specs.declared.Kind.the-variants as kind
 use Rattle.frame.specs.Hex.{bytesOf}
-use Rattle.frame.specs.Frame.{kindOf, indexOf, coordinateOf, wordsOf}
+use Rattle.frame.specs.Frame.{kindOf, sideOf, weightOf, variablesOf, coordinatesOf, scaleOf, indexOf, coordinateOf, wordsOf}
 use Rattle.frames.specs.declared.Phase.{Phase}
 use Rattle.frames.specs.declared.Phase.the-variants as phase
 use Rattle.frames.specs.declared.Reader.{Reader}
@@ -33,7 +35,7 @@ start out = record { reader = started; out = out }
 abbrev pub step : List ℕ → State → State
 step line s =
     record {
-      reader = turned (s .reader) (bytesOf line) .reader;
+      reader = turned (s .reader) (bytesOf line) .1;
       out = outAfter (s .reader) (bytesOf line) (s .out);
     }
 
@@ -42,7 +44,30 @@ abbrev pub after : List (List ℕ) → State → State
 after [] s = s
 after (l ∷ ls) s = after ls (step l s)
 
+-- what an `01` gives: side, weight, n, k, scale
+pub record Opening : Type 0 where
+  pub side : Side
+  pub weight : Weight
+  pub n : ℕ
+  pub k : ℕ
+  pub scale : Element
+
+-- by the bytes of the line
+abbrev pub openingOf : List ℕ → Opening
+openingOf bs = record { side = sideOf bs; weight = weightOf bs; n = variablesOf bs; k = coordinatesOf bs; scale = scaleOf bs }
+
+-- and what a session has of it
+abbrev pub heldBy : Session → Opening
+heldBy s = record { side = s .side; weight = s .weight; n = s .n; k = s .k; scale = s .scale }
+
 -- what lines of a kind bring
+abbrev pub openingBy : Kind → List ℕ → List Opening
+openingBy kind.Open bs = openingOf bs ∷ []
+openingBy kind.Coordinate bs = []
+openingBy kind.Words bs = []
+openingBy kind.Close bs = []
+openingBy kind.NoFrame bs = []
+
 abbrev pub wordsBy : Kind → List ℕ → List ℕ
 wordsBy kind.Words bs = wordsOf bs
 wordsBy kind.Open bs = []
@@ -56,6 +81,11 @@ elementBy kind.Open i bs = []
 elementBy kind.Words i bs = []
 elementBy kind.Close i bs = []
 elementBy kind.NoFrame i bs = []
+
+-- what the accepted `01` lines give, in order
+abbrev pub openings : List (List ℕ) → State → List Opening
+openings [] s = []
+openings (l ∷ ls) s = leaves (lineAnswer (s .reader) (bytesOf l)) (openingBy (kindOf (bytesOf l)) (bytesOf l)) [] ++ openings ls (step l s)
 
 -- the words of the accepted `03` lines, joined in order
 abbrev pub joined : List (List ℕ) → State → List ℕ
@@ -85,6 +115,11 @@ abbrev pub argsOf : Session → Args
 argsOf s = args (s .n) (s .side) (s .weight) (s .scale) (take (4 * s .k) (s .coordinates))
 
 pub record Runs : Type 0 where
+  -- "Just one `01` comes first": before it none was accepted
+  pub unopened : (ls : List (List ℕ)) (out : List ℕ) → isOpened (after ls (start out) .reader .phase) ≡ false → openings ls (start out) ≡ []
+  -- from it on one was, and the session has the fields that stand in that line
+  pub opened-by : (ls : List (List ℕ)) (out : List ℕ) → isOpened (after ls (start out) .reader .phase) ≡ true
+      → openings ls (start out) ≡ heldBy (after ls (start out) .reader .session) ∷ []
   -- out is the ledger's of the joined words: at each place the sum over the rows of scale·weight·word, a missing word being 0
   pub folds : (ls : List (List ℕ)) (out : List ℕ) → length out ≡ 4 * 2 ^ mostPlaces
       → let s = after ls (start out) in isOpened (s .reader .phase) ≡ true

@@ -4,7 +4,7 @@ use mathlib.Core.Path.{_≡_, refl, sym, ap, ap₂, _∙_}
 use mathlib.Core.Bool.{Bool, true, false, _&&_}
 use Prim.Native.Nat.{ℕ, zero, suc, _+_, _-_, _*_, _%_, _^_, _≤_}
 use native.Mathlib.Omega.{arith}
-use mathlib.Core.List.{List, _++_}
+use mathlib.Core.List.{List, [], _∷_, _++_}
 use lib.Dec.{ltb}
 use lib.ListN.{length, drop, replicate, length-append}
 use lib.Seq.{drop-at}
@@ -13,14 +13,14 @@ use Rattle.algebra.specs.Words.{unreduced}
 use Rattle.algebra.proofs.Words.{unreduced-append, unreduced-zeros}
 use Rattle.field.specs.Field.{p, p-pos, field}
 use Rattle.table.specs.Table.{tableWords, elements, entries, pointOf}
-use Rattle.table.specs.Refusals.{verdict, most, splits, tooMany, rowsDiffer}
-use Rattle.table.specs.declared.Verdict.the-variants.{Accepted}
+use Rattle.table.specs.Refusals.{Test, _gives_, verdict, most, splits, rowsDiffer}
 use Rattle.table.proofs.Laws.{table-length, table-ext, table-at}
 use Rattle.table.proofs.Parts.{table-zeros, elements-front}
-use Rattle.table.proofs.Tests.{unreduced-table, whole, same, or-none}
+use Rattle.table.proofs.Tests.{unreduced-table, whole, same}
 use Rattle.table.proofs.Verdicts.{Clear, clear}
-use Rattle.session.specs.Session.{state, Args, sessionOf, openTests, openAnswer, openLeaves, opened, nonzero, broken, misfits, gainAt, fed, feedAnswer, feedLeaves, closeAnswer, closeLeaves}
+use Rattle.session.specs.Session.{state, Args, sessionOf, openTests, openAnswer, openLeaves, opened, nonzero, gainAt, fed, feedAnswer, feedLeaves, closeAnswer, closeLeaves}
 use Rattle.session.specs.Ledger.{Call, feed, close, run, sessionStep, Ledger, empty, ledgerFeed, ledgerClose, ledgerStep, innerOf, ledgerAt, ledgerState}
+use Rattle.session.specs.Inner.{readyTests}
 use Rattle.session.proofs.Runs.{settle, kept, runs}
 use Rattle.session.proofs.Joining.{gain, place-joined, place-empty}
 
@@ -33,25 +33,22 @@ record Opened (a : Args) (out : List ℕ) : Type 0 where
   point-below : unreduced p (a .point) ≡ false
   scale-below : unreduced p (a .scale .c) ≡ false
 
-accepted : (a : Args) (out : List ℕ) → openAnswer a out ≡ Accepted → Opened a out
+accepted : (a : Args) (out : List ℕ) → openAnswer a out ≡ 0 → Opened a out
 unfolding openAnswer
 accepted a out e =
-    let h : Clear (openTests (a .n) (a .scale) (a .point) out) = clear (openTests (a .n) (a .scale) (a .point) out) (sym e) in
-    let s = or-none (splits (a .point)) (splits out) (h .0) in
-    let m = or-none (ltb most (a .n)) (tooMany (a .point)) (h .1 .0) in
-    let l = or-none (ltb (a .n) (entries (a .point))) (rowsDiffer out (a .n - entries (a .point))) (h .1 .1 .0) in
-    let u = or-none (unreduced p (a .point)) (unreduced p (a .scale .c)) (h .1 .1 .1 .0) in
+    let h : Clear (openTests (a .n) (a .scale) (a .point) out) = clear (openTests (a .n) (a .scale) (a .point) out) tt (sym e) in
+    let lengths = h .1 .1 .1 .1 in
     record {
-      small = ltb-false most (a .n) (m .0);
-      fits = ltb-false (a .n) (entries (a .point)) (l .0);
-      count = whole (a .point) (s .0);
-      room = sym (whole out (s .1)) ∙ ap (λ m. 4 * m) (same (entries out) (innerOf a) (l .1));
-      point-below = u .0;
-      scale-below = u .1;
+      small = ltb-false most (a .n) (h .1 .1 .0);
+      fits = ltb-false (a .n) (entries (a .point)) (lengths .0);
+      count = whole (a .point) (h .0);
+      room = sym (whole out (h .1 .0)) ∙ ap (λ m. 4 * m) (same (entries out) (innerOf a) (lengths .1 .0));
+      point-below = lengths .1 .1 .0;
+      scale-below = lengths .1 .1 .1 .0;
     }
 
 -- out has an element for each place
-pub places-there : (a : Args) (out : List ℕ) → openAnswer a out ≡ Accepted → entries out ≡ innerOf a
+pub places-there : (a : Args) (out : List ℕ) → openAnswer a out ≡ 0 → entries out ≡ innerOf a
 places-there a out e = omega (arith, accepted a out e .room)
 
 -- no more words than the table has, and not fewer once it is closed
@@ -85,9 +82,18 @@ module _ (a : Args) (out : List ℕ) (ok : Opened a out) where
   coordinates-are : elements (a .point ++ padding) 0 k ≡ pointOf (a .point)
   coordinates-are = elements-front (a .point) padding 0 k (omega (arith, ok .count))
 
-  never-broken : (l : Ledger) → Inv a l → broken (ledgerState a l .session) ≡ false
-  unfolding broken
-  never-broken l i =
+  -- the ledger's out has an element for each place, and is reduced
+  out-whole : (l : Ledger) → splits (ledgerState a l .out) ≡ false
+  out-whole l = rw (eq-eqb _ 0 (fitting (innerOf a) (ledgerState a l .out) (table-length (innerOf a) _) .1))
+
+  out-fits : (l : Ledger) → rowsDiffer (ledgerState a l .out) (a .n - k) ≡ false
+  out-fits l = rw (eq-eqb _ (innerOf a) (fitting (innerOf a) (ledgerState a l .out) (table-length (innerOf a) _) .0))
+
+  -- so of the tests that feed and close share only 10 is left
+  never-broken : (l : Ledger) → Inv a l → (ts : List Test)
+      → verdict (readyTests (ledgerState a l) ++ ts) ≡ verdict (l .closed gives 10 ∷ ts)
+  unfolding verdict
+  never-broken l i ts =
       rw (
         le-ltb most (a .n) (ok .small),
         le-ltb (a .n) k (ok .fits),
@@ -95,31 +101,28 @@ module _ (a : Args) (out : List ℕ) (ok : Opened a out) where
         ok .scale-below,
         coordinates-below,
         unused-zero,
+        shut (l .closed) (i .full),
+        out-whole l,
+        out-fits l,
+        unreduced-table (innerOf a) (ledgerAt a (l .words)),
       )
-      (shut (l .closed) (i .full))
     where
       shut : (b : Bool) → (b ≡ true → 2 ^ a .n ≤ length (l .words)) → (b && ltb (length (l .words)) (2 ^ a .n)) ≡ false
       shut true h = le-ltb _ _ (h refl)
       shut false h = refl
 
-  -- the ledger's out has an element for each place
-  fits-out : (l : Ledger) → misfits (ledgerState a l) ≡ false
-  fits-out l =
-      let h = fitting (innerOf a) (ledgerState a l .out) (table-length (innerOf a) _) in
-      rw (eq-eqb _ 0 (h .1), eq-eqb _ (innerOf a) (h .0))
-
-  -- so the tests that are left are the ledger's
   feed-answers : (piece : List ℕ) (l : Ledger) → Inv a l → feedAnswer (ledgerState a l) piece ≡ ledgerFeed a piece l
-  unfolding feedAnswer verdict
-  feed-answers piece l i = rw (never-broken l i, fits-out l, unreduced-table (innerOf a) (ledgerAt a (l .words)))
+  unfolding feedAnswer
+  feed-answers piece l i =
+      never-broken l i (unreduced p piece gives 5 ∷ ltb (2 ^ a .n) (length (l .words) + length piece) gives 8 ∷ [])
 
   close-answers : (l : Ledger) → Inv a l → closeAnswer (ledgerState a l) ≡ ledgerClose a l
-  unfolding closeAnswer verdict
-  close-answers l i = rw (never-broken l i, fits-out l, unreduced-table (innerOf a) (ledgerAt a (l .words)))
+  unfolding closeAnswer
+  close-answers l i = never-broken l i (ltb (length (l .words)) (2 ^ a .n) gives 9 ∷ [])
 
   -- an accepted piece is within the table
-  within : (piece : List ℕ) (l : Ledger) → ledgerFeed a piece l ≡ Accepted → length (l .words) + length piece ≤ 2 ^ a .n
-  within piece l e = ltb-false _ _ (clear _ (sym e) .1 .1 .0)
+  within : (piece : List ℕ) (l : Ledger) → ledgerFeed a piece l ≡ 0 → length (l .words) + length piece ≤ 2 ^ a .n
+  within piece l e = ltb-false _ _ (clear _ tt (sym e) .1 .1 .0)
 
   gain-is : (piece : List ℕ) (l : Ledger) (i : ℕ) → gainAt (ledgerState a l .session) piece i ≡ gain a (length (l .words)) piece i
   gain-is piece l i = rw coordinates-are
@@ -149,7 +152,7 @@ module _ (a : Args) (out : List ℕ) (ok : Opened a out) where
       kept (Inv a) (ledgerFeed a piece l) i
       (λ e. record { room = simp length-append (within piece l e); full = λ b. simp length-append (omega (arith, i .full b)) })
   keeps close l i =
-      kept (Inv a) (ledgerClose a l) i (λ e. record { room = i .room; full = λ b. ltb-false _ _ (clear _ (sym e) .1 .0) })
+      kept (Inv a) (ledgerClose a l) i (λ e. record { room = i .room; full = λ b. ltb-false _ _ (clear _ tt (sym e) .1 .0) })
 
   -- open's zeros are the fold of no words
   opened-is : opened a out ≡ ledgerState a empty
@@ -157,11 +160,11 @@ module _ (a : Args) (out : List ℕ) (ok : Opened a out) where
       ap (state (sessionOf a 0 false))
       (ap (λ m. replicate m 0) (ok .room) ∙ table-zeros (innerOf a) ∙ sym (table-ext (innerOf a) _ _ (λ i h. place-empty a i)))
 
-open-leaves : (a : Args) (out : List ℕ) → openAnswer a out ≡ Accepted → openLeaves a out ≡ opened a out
+open-leaves : (a : Args) (out : List ℕ) → openAnswer a out ≡ 0 → openLeaves a out ≡ opened a out
 unfolding openLeaves
 open-leaves a out h = rw h
 
-pub session-is-ledger : (a : Args) (out : List ℕ) → openAnswer a out ≡ Accepted → (cs : List Call)
+pub session-is-ledger : (a : Args) (out : List ℕ) → openAnswer a out ≡ 0 → (cs : List Call)
     → run sessionStep cs (openLeaves a out) ≡ (run (ledgerStep a) cs empty .0, ledgerState a (run (ledgerStep a) cs empty .1))
 session-is-ledger a out h cs =
     let ok = accepted a out h in

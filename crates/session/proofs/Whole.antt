@@ -1,26 +1,24 @@
 -- Out after a list of calls is the table of the ledger's places, over the accepted pieces joined. Assumes nothing.
 use mathlib.Core.Path.{_≡_, refl, sym, ap, _∙_}
-use Prim.Native.Nat.{ℕ}
+use Prim.Native.Nat.{ℕ, zero, suc}
 use mathlib.Core.Bool.{true}
 use mathlib.Core.List.{List, [], _∷_, _++_, append-assoc, append-nil}
 use Rattle.table.specs.Table.{tableWords}
 use Rattle.table.specs.Refusals.{leaves}
-use Rattle.table.specs.declared.Verdict.{Verdict}
-use Rattle.table.specs.declared.Verdict.the-variants.{Accepted, Refused}
 use Rattle.session.specs.Session.{Args, openAnswer}
 use Rattle.session.specs.Ledger.{Call, feed, close, run, Ledger, empty, ledgerFeed, ledgerClose, ledgerStep, innerOf, ledgerAt, joined}
 use Rattle.session.specs.Demand3.{answers, after}
 use Rattle.session.proofs.Ledgers.{session-is-ledger}
 
 -- the ledger's words after a call
-close-words : (v : Verdict) (l : Ledger) → leaves {A = Ledger} v (record { words = l .words; closed = true }) l .words ≡ l .words
-close-words Accepted l = refl
-close-words (Refused r) l = refl
+close-words : (n : ℕ) (l : Ledger) → leaves {A = Ledger} n (record { words = l .words; closed = true }) l .words ≡ l .words
+close-words zero l = refl
+close-words (suc n) l = refl
 
-feed-words : (v : Verdict) (piece : List ℕ) (l : Ledger)
-    → leaves {A = Ledger} v (record { words = l .words ++ piece; closed = l .closed }) l .words ≡ l .words ++ leaves v piece []
-feed-words Accepted piece l = refl
-feed-words (Refused r) piece l = sym (append-nil _)
+feed-words : (n : ℕ) (piece : List ℕ) (l : Ledger)
+    → leaves {A = Ledger} n (record { words = l .words ++ piece; closed = l .closed }) l .words ≡ l .words ++ leaves n piece []
+feed-words zero piece l = refl
+feed-words (suc n) piece l = sym (append-nil _)
 
 -- the ledger's words are the pieces that were accepted, by its answers
 words-are : (a : Args) (cs : List Call) (l : Ledger)
@@ -35,7 +33,7 @@ words-are a (feed piece ∷ cs) l =
     ∙ ap (λ ws. ws ++ joined cs (run (ledgerStep a) cs l′ .0)) (feed-words (ledgerFeed a piece l) piece l)
     ∙ append-assoc (l .words) _ _
 
-pub out-is : (a : Args) (out : List ℕ) → openAnswer a out ≡ Accepted → (cs : List Call)
+pub out-is : (a : Args) (out : List ℕ) → openAnswer a out ≡ 0 → (cs : List Call)
     → after a out cs .out ≡ tableWords (innerOf a) (ledgerAt a (joined cs (answers a out cs)))
 out-is a out h cs =
     let e = session-is-ledger a out h cs in

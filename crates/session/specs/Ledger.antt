@@ -9,9 +9,7 @@ use Rattle.multilinear.specs.Folds.{foldAt}
 use Rattle.field.specs.Field.{p, Ext, field, base, fromWords}
 use Rattle.table.specs.Table.{tableWords, entries, pointOf}
 use Rattle.table.specs.Refusals.{_gives_, verdict, leaves}
-use Rattle.table.specs.declared.Refusal.the-variants.{Unreduced, TooLong, Missing, Closed}
-use Rattle.table.specs.declared.Verdict.{Verdict}
-use Rattle.session.specs.Session.{State, state, Args, sessionOf, feedAnswer, feedLeaves, closeAnswer, closeLeaves}
+use Rattle.session.specs.Session.{State, state, Args, sessionOf, feedStep, closeStep}
 
 -- a call's kind and piece
 pub data Call : Type 0 where
@@ -19,14 +17,14 @@ pub data Call : Type 0 where
   close : Call
 
 -- a list of calls, one after another: all answers, and what is left at the end
-abbrev pub run {ℓ} : {S : Type ℓ} → (Call → S → Verdict × S) → List Call → S → List Verdict × S
+abbrev pub run {ℓ} : {S : Type ℓ} → (Call → S → ℕ × S) → List Call → S → List ℕ × S
 run step [] s = ([], s)
 run step (c ∷ cs) s = (step c s .0 ∷ run step cs (step c s .1) .0, run step cs (step c s .1) .1)
 
 -- the session: what the contracts of feed and close say
-abbrev pub sessionStep : Call → State → Verdict × State
-sessionStep (feed piece) st = (feedAnswer st piece, feedLeaves st piece)
-sessionStep close st = (closeAnswer st, closeLeaves st)
+abbrev pub sessionStep : Call → State → ℕ × State
+sessionStep (feed piece) st = feedStep st piece
+sessionStep close st = closeStep st
 
 -- "It keeps the accepted pieces' words, joined in order, none at first, and whether it is closed, at first not"
 pub record Ledger : Type 0 where
@@ -38,20 +36,20 @@ empty = record { words = []; closed = false }
 
 -- "Feed: 10 where it is closed; else 5 where a word of the piece is not below p; else 8 where the joined words and the piece together
 -- are more than the table has"
-abbrev pub ledgerFeed : Args → List ℕ → Ledger → Verdict
+abbrev pub ledgerFeed : Args → List ℕ → Ledger → ℕ
 ledgerFeed a piece l =
     verdict
-    ((l .closed gives Closed)
-    ∷ (unreduced p piece gives Unreduced)
-    ∷ (ltb (2 ^ a .n) (length (l .words) + length piece) gives TooLong)
+    (l .closed gives 10
+    ∷ unreduced p piece gives 5
+    ∷ ltb (2 ^ a .n) (length (l .words) + length piece) gives 8
     ∷ [])
 
 -- "Close: 10 where it is closed; else 9 where the joined words are fewer than the table has"
-abbrev pub ledgerClose : Args → Ledger → Verdict
-ledgerClose a l = verdict ((l .closed gives Closed) ∷ (ltb (length (l .words)) (2 ^ a .n) gives Missing) ∷ [])
+abbrev pub ledgerClose : Args → Ledger → ℕ
+ledgerClose a l = verdict (l .closed gives 10 ∷ ltb (length (l .words)) (2 ^ a .n) gives 9 ∷ [])
 
 -- "else accepted, and the piece is joined on"; "else accepted, and it is closed"; "a refused call changes nothing in it"
-abbrev pub ledgerStep : Args → Call → Ledger → Verdict × Ledger
+abbrev pub ledgerStep : Args → Call → Ledger → ℕ × Ledger
 ledgerStep a (feed piece) l = (ledgerFeed a piece l, leaves (ledgerFeed a piece l) (record { words = l .words ++ piece; closed = l .closed }) l)
 ledgerStep a close l = (ledgerClose a l, leaves (ledgerClose a l) (record { words = l .words; closed = true }) l)
 
@@ -68,7 +66,7 @@ abbrev pub ledgerState : Args → Ledger → State
 ledgerState a l = state (sessionOf a (length (l .words)) (l .closed)) (tableWords (innerOf a) (ledgerAt a (l .words)))
 
 -- the pieces that were accepted, by the answers, joined in order
-abbrev pub joined : List Call → List Verdict → List ℕ
+abbrev pub joined : List Call → List ℕ → List ℕ
 joined [] vs = []
 joined (c ∷ cs) [] = []
 joined (close ∷ cs) (v ∷ vs) = joined cs vs

@@ -1,5 +1,5 @@
 -- The fold session (document 01, "Fold session"; "Refused calls": Open, Feed, Close): what each call answers and leaves. Assumes nothing.
-use Prim.Native.Nat.{ℕ, _+_, _-_, _*_, _^_}
+use Prim.Native.Nat.{ℕ, suc, _+_, _-_, _*_, _^_}
 use mathlib.Core.Bool.{Bool, true, false, not, _&&_, _||_}
 use mathlib.Core.List.{List, [], _∷_, _++_}
 use lib.Dec.{eqb, ltb}
@@ -13,9 +13,7 @@ use Rattle.multilinear.specs.Folds.{foldAt}
 use Rattle.field.specs.Field.{p, Ext, field, base, fromWords}
 use Rattle.field.specs.declared.Element.{Element}
 use Rattle.table.specs.Table.{tableWords, elementAt, elements, entries, placed}
-use Rattle.table.specs.Refusals.{Test, _gives_, verdict, leaves, most, splits, tooMany, rowsDiffer}
-use Rattle.table.specs.declared.Refusal.the-variants.{Split, TooMany, Lengths, Unreduced, TooLong, Missing, Closed, Broken}
-use Rattle.table.specs.declared.Verdict.{Verdict}
+use Rattle.table.specs.Refusals.{answer, Test, _gives_, verdict, leaves, most, splits, tooMany, rowsDiffer}
 use Rattle.session.specs.declared.Session.{Session}
 use Rattle.session.specs.declared.Settled.{Settled}
 
@@ -27,9 +25,9 @@ pub record State : Type 0 where
 abbrev pub state : Session → List ℕ → State
 state s out = record { session = s; out = out }
 
--- what a call returns: its answer beside the session
-abbrev pub settled : Verdict → Session → Settled
-settled v s = record { answer = v; session = s }
+-- number and values of a `Settled`: its answer's number, and the session, with the out beside it
+abbrev pub settled : Settled → List ℕ → ℕ × State
+settled r out = (answer (r .answer), state (r .session) out)
 
 -- open's arguments
 pub record Args : Type 0 where
@@ -59,20 +57,24 @@ sessionOf a taken closed =
 -- Open: 1, 3, 4 (also k above n, out), 5
 abbrev pub openTests : ℕ → Element → List ℕ → List ℕ → List Test
 openTests n scale point out =
-    (splits point || splits out gives Split)
-    ∷ (ltb most n || tooMany point gives TooMany)
-    ∷ (ltb n (entries point) || rowsDiffer out (n - entries point) gives Lengths)
-    ∷ (unreduced p point || unreduced p (scale .c) gives Unreduced)
+    splits point gives 1
+    ∷ splits out gives 1
+    ∷ ltb most n gives 3
+    ∷ tooMany point gives 3
+    ∷ ltb n (entries point) gives 4
+    ∷ rowsDiffer out (n - entries point) gives 4
+    ∷ unreduced p point gives 5
+    ∷ unreduced p (scale .c) gives 5
     ∷ []
 
-unfoldable pub openAnswer : Args → List ℕ → Verdict
+unfoldable pub openAnswer : Args → List ℕ → ℕ
 openAnswer a out = verdict (openTests (a .n) (a .scale) (a .point) out)
 
--- refused, open gives the blank session
-unfoldable pub blank : Session
-blank =
+-- beside a refused open: a record that no session has, n being over 20, so that every call on it is 11 (`unopened` of Demand3.antt)
+unfoldable pub noSession : Session
+noSession =
     record {
-      n = 0;
+      n = suc most;
       k = 0;
       side = Prefix;
       weight = Plain;
@@ -87,7 +89,11 @@ abbrev pub opened : Args → List ℕ → State
 opened a out = state (sessionOf a 0 false) (replicate (length out) 0)
 
 unfoldable pub openLeaves : Args → List ℕ → State
-openLeaves a out = leaves (openAnswer a out) (opened a out) (state blank out)
+openLeaves a out = leaves (openAnswer a out) (opened a out) (state noSession out)
+
+-- what open returns and leaves
+abbrev pub openStep : Args → List ℕ → ℕ × State
+openStep a out = (openAnswer a out, openLeaves a out)
 
 -- a word that is not 0
 unfoldable pub nonzero : List ℕ → Bool
@@ -95,37 +101,38 @@ nonzero [] = false
 nonzero (w ∷ ws) = not (eqb w 0) || nonzero ws
 
 -- 11: n over 20, k over n, taken over 2^n, a part unreduced, unused coordinate not 0, closed short of 2^n
-unfoldable pub broken : Session → Bool
-broken s =
-    ltb most (s .n)
-    || ltb (s .n) (s .k)
-    || ltb (2 ^ s .n) (s .taken)
-    || (unreduced p (s .scale .c) || unreduced p (s .coordinates))
-    || nonzero (drop (4 * s .k) (s .coordinates))
-    || (s .closed && ltb (s .taken) (2 ^ s .n))
-
--- 4: out has not an element for each place
-abbrev pub misfits : State → Bool
-misfits st = splits (st .out) || rowsDiffer (st .out) (st .session .n - st .session .k)
+abbrev pub recordTests : Session → List Test
+recordTests s =
+    ltb most (s .n) gives 11
+    ∷ ltb (s .n) (s .k) gives 11
+    ∷ ltb (2 ^ s .n) (s .taken) gives 11
+    ∷ unreduced p (s .scale .c) gives 11
+    ∷ unreduced p (s .coordinates) gives 11
+    ∷ nonzero (drop (4 * s .k) (s .coordinates)) gives 11
+    ∷ (s .closed && ltb (s .taken) (2 ^ s .n)) gives 11
+    ∷ []
 
 -- Feed: 11, 10, 4, 5 (piece or out), 8 (piece passes 2^n)
 abbrev pub feedTests : State → List ℕ → List Test
 feedTests st piece =
-    (broken (st .session) gives Broken)
-    ∷ (st .session .closed gives Closed)
-    ∷ (misfits st gives Lengths)
-    ∷ (unreduced p (st .out) || unreduced p piece gives Unreduced)
-    ∷ (ltb (2 ^ st .session .n) (st .session .taken + length piece) gives TooLong)
+    recordTests (st .session)
+    ++ st .session .closed gives 10
+    ∷ splits (st .out) gives 4
+    ∷ rowsDiffer (st .out) (st .session .n - st .session .k) gives 4
+    ∷ unreduced p (st .out) gives 5
+    ∷ unreduced p piece gives 5
+    ∷ ltb (2 ^ st .session .n) (st .session .taken + length piece) gives 8
     ∷ []
 
 -- Close: 11, 10, 4, 5, 9 (words missing)
 abbrev pub closeTests : State → List Test
 closeTests st =
-    (broken (st .session) gives Broken)
-    ∷ (st .session .closed gives Closed)
-    ∷ (misfits st gives Lengths)
-    ∷ (unreduced p (st .out) gives Unreduced)
-    ∷ (ltb (st .session .taken) (2 ^ st .session .n) gives Missing)
+    recordTests (st .session)
+    ++ st .session .closed gives 10
+    ∷ splits (st .out) gives 4
+    ∷ rowsDiffer (st .out) (st .session .n - st .session .k) gives 4
+    ∷ unreduced p (st .out) gives 5
+    ∷ ltb (st .session .taken) (2 ^ st .session .n) gives 9
     ∷ []
 
 -- the same session, with so many words taken, closed or not
@@ -148,7 +155,7 @@ gainAt s piece i =
     foldAt field (s .side) (s .weight) (2 ^ (s .n - s .k)) (elements (s .coordinates) 0 (s .k)) (fromWords (s .scale))
     (λ t. base (placed (s .taken) piece t)) i
 
-unfoldable pub feedAnswer : State → List ℕ → Verdict
+unfoldable pub feedAnswer : State → List ℕ → ℕ
 feedAnswer st piece = verdict (feedTests st piece)
 
 -- "Feed adds scale·weight·word to each word's place and counts the words taken"
@@ -160,9 +167,17 @@ fed s piece out =
 unfoldable pub feedLeaves : State → List ℕ → State
 feedLeaves st piece = leaves (feedAnswer st piece) (fed (st .session) piece (st .out)) st
 
-unfoldable pub closeAnswer : State → Verdict
+-- what feed returns and leaves
+abbrev pub feedStep : State → List ℕ → ℕ × State
+feedStep st piece = (feedAnswer st piece, feedLeaves st piece)
+
+unfoldable pub closeAnswer : State → ℕ
 closeAnswer st = verdict (closeTests st)
 
 -- "Close marks it closed"
 unfoldable pub closeLeaves : State → State
 closeLeaves st = leaves (closeAnswer st) (state (marked (st .session) (st .session .taken) true) (st .out)) st
+
+-- what close returns and leaves
+abbrev pub closeStep : State → ℕ × State
+closeStep st = (closeAnswer st, closeLeaves st)

@@ -5,13 +5,14 @@ use multilinear::Weight;
 use table::Refusal;
 use table::Verdict;
 ghost use mathlib.Core.Path.{_≡_};
-ghost use mathlib.Core.Bool.{Bool, false};
+ghost use mathlib.Core.Bool.{false};
 ghost use mathlib.Core.List.{_++_};
 ghost use Prim.Native.Nat.{_-_, _≤_};
 ghost use lib.ListN.{length, drop, replicate};
-ghost use Rattle.table.specs.Refusals.{verdict};
-ghost use Rattle.session.specs.Session.{args, sessionOf, blank, nonzero, broken, openTests, state, settled, openAnswer, openLeaves, marked, feedAnswer, feedLeaves, closeAnswer, closeLeaves};
-ghost use Rattle.session.specs.Inner.{readyTests, Sized};
+ghost use Rattle.table.specs.Refusals.{answer, verdict};
+ghost use Rattle.table.specs.Inner.{onward};
+ghost use Rattle.session.specs.Session.{args, sessionOf, noSession, nonzero, openTests, state, settled, openStep, marked, feedAnswer, feedStep, closeAnswer, closeStep};
+ghost use Rattle.session.specs.Inner.{broken, sharedTests, Sized};
 
 // What a session knows: the table's variables and the point's coordinates, how it folds, and how far it is.
 pub struct Session {
@@ -31,7 +32,7 @@ pub struct Settled {
     pub session: Session,
 }
 
-// A session of a table of n variables at a point; out is zeroed. Refused, it gives the blank session.
+// A session of a table of n variables at a point; out is zeroed. Refused, it gives a record that every call refuses with 11.
 pub fn open(
     n: usize,
     side: Side,
@@ -40,14 +41,13 @@ pub fn open(
     point: &[u32],
     out: &mut [u32],
 ) -> Settled
-    ensures { λ r. ⌜ r ≡ settled (openAnswer (args n side weight scale (now (point .entry))) (now (out .entry))) (openLeaves (args n side weight scale (now (point .entry))) (now (out .entry)) .session) ⌝ }
-    ensures { λ _. ⌜ now (out .exit) ≡ openLeaves (args n side weight scale (now (point .entry))) (now (out .entry)) .out ⌝ }
+    ensures { λ r. ⌜ settled r (now (out .exit)) ≡ openStep (args n side weight scale (now (point .entry))) (now (out .entry)) ⌝ }
 {
     let tested = test_open(n, scale, point, out);
     match tested {
         Verdict::Refused(refusal) => Settled {
             answer: Verdict::Refused(refusal),
-            session: blank_session(),
+            session: no_session(),
         },
         Verdict::Accepted => {
             table::clear(out);
@@ -61,8 +61,7 @@ pub fn open(
 
 // Adds scale weight word to each word's place, and counts the words.
 pub fn feed(s: Session, piece: &[u32], out: &mut [u32]) -> Settled
-    ensures { λ r. ⌜ r ≡ settled (feedAnswer (state s (now (out .entry))) (now (piece .entry))) (feedLeaves (state s (now (out .entry))) (now (piece .entry)) .session) ⌝ }
-    ensures { λ _. ⌜ now (out .exit) ≡ feedLeaves (state s (now (out .entry))) (now (piece .entry)) .out ⌝ }
+    ensures { λ r. ⌜ settled r (now (out .exit)) ≡ feedStep (state s (now (out .entry))) (now (piece .entry)) ⌝ }
 {
     let tested = test_feed(s, piece, out);
     match tested {
@@ -96,7 +95,7 @@ pub fn feed(s: Session, piece: &[u32], out: &mut [u32]) -> Settled
 
 // Marks the session closed.
 pub fn close(s: Session, out: &[u32]) -> Settled
-    ensures { λ r. ⌜ r ≡ settled (closeAnswer (state s (now (out .entry)))) (closeLeaves (state s (now (out .entry))) .session) ⌝ }
+    ensures { λ r. ⌜ settled r (now (out .entry)) ≡ closeStep (state s (now (out .entry))) ⌝ }
 {
     let tested = test_close(s, out);
     match tested {
@@ -112,26 +111,29 @@ pub fn close(s: Session, out: &[u32]) -> Settled
 }
 
 fn test_open(n: usize, scale: Element, point: &[u32], out: &[u32]) -> Verdict
-    ensures { λ r. ⌜ r ≡ verdict (openTests n scale (now (point .entry)) (now (out .entry))) ⌝ }
+    ensures { λ r. ⌜ answer r ≡ verdict (openTests n scale (now (point .entry)) (now (out .entry))) ⌝ }
 {
     let k = point.len() / 4;
     let words = scale.c;
-    let split = table::either(table::splits(point), table::splits(out));
-    let many = table::either(table::MOST < n, table::too_many(point));
-    let lengths = table::either(n < k, table::rows_differ(out, table::remaining(n, k)));
-    let unreduced = table::either(field::unreduced(point), field::unreduced(&words));
     Verdict::Accepted
-        .refuse_if(split, Refusal::Split)
-        .refuse_if(many, Refusal::TooMany)
-        .refuse_if(lengths, Refusal::Lengths)
-        .refuse_if(unreduced, Refusal::Unreduced)
+        .refuse_if(table::splits(point), Refusal::Split)
+        .refuse_if(table::splits(out), Refusal::Split)
+        .refuse_if(table::MOST < n, Refusal::TooMany)
+        .refuse_if(table::too_many(point), Refusal::TooMany)
+        .refuse_if(n < k, Refusal::Lengths)
+        .refuse_if(
+            table::rows_differ(out, table::remaining(n, k)),
+            Refusal::Lengths,
+        )
+        .refuse_if(field::unreduced(point), Refusal::Unreduced)
+        .refuse_if(field::unreduced(&words), Refusal::Unreduced)
 }
 
 fn test_feed(s: Session, piece: &[u32], out: &[u32]) -> Verdict
-    ensures { λ r. ⌜ r ≡ feedAnswer (state s (now (out .entry))) (now (piece .entry)) ⌝ }
+    ensures { λ r. ⌜ answer r ≡ feedAnswer (state s (now (out .entry))) (now (piece .entry)) ⌝ }
 {
-    let unreduced = table::either(field::unreduced(out), field::unreduced(piece));
-    let tested = test_ready(s, out, unreduced);
+    let ready = test_ready(is_broken(s), s.closed, out, table::remaining(s.n, s.k));
+    let tested = ready.refuse_if(field::unreduced(piece), Refusal::Unreduced);
     match tested {
         Verdict::Refused(refusal) => Verdict::Refused(refusal),
         Verdict::Accepted => {
@@ -142,9 +144,9 @@ fn test_feed(s: Session, piece: &[u32], out: &[u32]) -> Verdict
 }
 
 fn test_close(s: Session, out: &[u32]) -> Verdict
-    ensures { λ r. ⌜ r ≡ closeAnswer (state s (now (out .entry))) ⌝ }
+    ensures { λ r. ⌜ answer r ≡ closeAnswer (state s (now (out .entry))) ⌝ }
 {
-    let tested = test_ready(s, out, field::unreduced(out));
+    let tested = test_ready(is_broken(s), s.closed, out, table::remaining(s.n, s.k));
     match tested {
         Verdict::Refused(refusal) => Verdict::Refused(refusal),
         Verdict::Accepted => {
@@ -153,17 +155,16 @@ fn test_close(s: Session, out: &[u32]) -> Verdict
     }
 }
 
-// The tests that feed and close share.
-fn test_ready(s: Session, out: &[u32], unreduced: bool) -> Verdict
-    ensures { λ r. ⌜ r ≡ verdict (readyTests (state s (now (out .entry))) unreduced) ⌝ }
+// The tests that feed and close share: of a record that is broken or not, closed or not, and of an out of 2^m elements.
+fn test_ready(broken: bool, closed: bool, out: &[u32], m: usize) -> Verdict
+    ensures { λ r. ⌜ answer r ≡ onward 0 (sharedTests broken closed (now (out .entry)) m) ⌝ }
 {
-    let places = table::remaining(s.n, s.k);
-    let lengths = table::either(table::splits(out), table::rows_differ(out, places));
     Verdict::Accepted
-        .refuse_if(is_broken(s), Refusal::Broken)
-        .refuse_if(s.closed, Refusal::Closed)
-        .refuse_if(lengths, Refusal::Lengths)
-        .refuse_if(unreduced, Refusal::Unreduced)
+        .refuse_if(broken, Refusal::Broken)
+        .refuse_if(closed, Refusal::Closed)
+        .refuse_if(table::splits(out), Refusal::Lengths)
+        .refuse_if(table::rows_differ(out, m), Refusal::Lengths)
+        .refuse_if(field::unreduced(out), Refusal::Unreduced)
 }
 
 // 11: no session has such a record.
@@ -189,7 +190,10 @@ fn has_bad_part(s: Session) -> bool
     if rows < s.taken {
         return true;
     }
-    if table::either(field::unreduced(&scale), field::unreduced(&coordinates)) {
+    if field::unreduced(&scale) {
+        return true;
+    }
+    if field::unreduced(&coordinates) {
         return true;
     }
     if has_nonzero(&coordinates, 4 * s.k) {
@@ -237,11 +241,12 @@ fn fresh(n: usize, side: Side, weight: Weight, scale: Element, point: &[u32]) ->
     }
 }
 
-fn blank_session() -> Session
-    ensures { λ r. ⌜ r ≡ blank ⌝ }
+// Of more variables than a table may have.
+fn no_session() -> Session
+    ensures { λ r. ⌜ r ≡ noSession ⌝ }
 {
     Session {
-        n: 0,
+        n: table::MOST + 1,
         k: 0,
         side: Side::Prefix,
         weight: Weight::Plain,

@@ -1,6 +1,6 @@
--- Answers and what calls leave, by the verdict on their tests. Assumes nothing.
-use mathlib.Core.Path.{_≡_, ap, _∙_}
-use mathlib.Core.Bool.{Bool, _||_}
+-- Answers and what calls leave, by the number of their tests. Assumes nothing.
+use mathlib.Core.Path.{_≡_, refl}
+use mathlib.Core.Bool.{Bool}
 use Prim.Native.Nat.{ℕ, _^_}
 use mathlib.Core.List.{List}
 use lib.ListN.{length}
@@ -10,36 +10,40 @@ use Rattle.field.specs.Field.{Ext, field, fromWords, valueOf, Holds}
 use Rattle.field.specs.declared.Element.{Element}
 use Rattle.field.specs.declared.Value.{Value}
 use Rattle.table.specs.Table.{tableWords, entries, elementAt, pointOf}
-use Rattle.table.specs.Refusals.{verdict, leaves, evaluated, splits}
+use Rattle.table.specs.Refusals.{answer, outcome, leaves, evaluated, splits}
+use Rattle.table.specs.Inner.{refuseIf, onward}
 use Rattle.table.specs.declared.Refusal.{Refusal}
 use Rattle.table.specs.declared.Verdict.{Verdict}
 use Rattle.table.specs.declared.Verdict.the-variants.{Accepted, Refused}
 use Rattle.table.specs.declared.Evaluation.the-variants as evaluation
-use Rattle.table.proofs.Outcomes.{refused-as, evaluated-as}
-use Rattle.split_eq.specs.Split.{bothTables, valueTests, baseVerdict, extVerdict, accumulateAnswer, accumulateWork, accumulateOut}
+use Rattle.table.proofs.Answers.{answer-as}
+use Rattle.table.proofs.Outcomes.{refused-as, evaluated-as, leavesBy, left-as}
+use Rattle.table.proofs.Verdicts.{gone-through}
+use Rattle.split_eq.specs.Split.{bothTables, valueTests, baseAnswer, extAnswer, accumulateAnswer, accumulateWork, accumulateOut}
 
 -- an evaluation that leaves `new` where it is accepted
 module _ (x : Ext) (new old : List ℕ) where
-  pub refused : {told : Verdict} {r : Refusal} → Refused r ≡ told
-      → (evaluation.Refused r ≡ evaluated told x) × (old ≡ leaves told new old)
-  refused e = (refused-as x e, ap (λ u. leaves u new old) e)
+  pub refused : {t : Verdict} {n : ℕ} {r : Refusal} → t ≡ Refused r → answer t ≡ n
+      → (outcome (evaluation.Refused r) ≡ evaluated n x) × (old ≡ leaves n new old)
+  refused e h = (refused-as x e h, left-as new old e h refl)
 
-  pub answered : (e : Element) {told : Verdict} {v : Value} {w : List ℕ} → Accepted ≡ told → Holds e x → v ≡ valueOf e → w ≡ new
-      → (evaluation.Value v ≡ evaluated told x) × (w ≡ leaves told new old)
-  answered e a h q l = (evaluated-as x e a h q, l ∙ ap (λ u. leaves u new old) a)
+  pub answered : (e : Element) {t : Verdict} {n : ℕ} {v : Value} {w : List ℕ} → t ≡ Accepted → answer t ≡ n → Holds e x → v ≡ valueOf e
+      → w ≡ new
+      → (outcome (evaluation.Value v) ≡ evaluated n x) × (w ≡ leaves n new old)
+  answered e a h d q l = (evaluated-as x e a h d q, left-as new old a h l)
 
--- the verdict of a call, its test of splits by what that test says
+-- the number of a call, by what each test of splits says
 module _ (table point : List ℕ) (scale : Element) (work : List ℕ) where
-  pub base-answer : {v : Verdict} {split s t : Bool} → v ≡ verdict (valueTests split (length table) table point scale work)
-      → split ≡ s || t → s ≡ splits point → t ≡ splits work → v ≡ baseVerdict table point scale work
-  unfolding baseVerdict
-  base-answer e q a b = e ∙ ap (λ s. verdict (valueTests s (length table) table point scale work)) (q ∙ rw (a, b))
+  pub base-answer : {n m l : ℕ} {s t : Bool} → n ≡ onward m (valueTests (length table) table point scale work) → m ≡ refuseIf l t 1
+      → t ≡ splits work → l ≡ refuseIf 0 s 1 → s ≡ splits point → n ≡ baseAnswer table point scale work
+  unfolding baseAnswer
+  base-answer e q b f a = gone-through _ tt (rw (e, q, b, f, a))
 
-  pub ext-answer : {v : Verdict} {split operands r s t : Bool} → v ≡ verdict (valueTests split (entries table) table point scale work)
-      → split ≡ operands || t → operands ≡ r || s → r ≡ splits table → s ≡ splits point → t ≡ splits work
-      → v ≡ extVerdict table point scale work
-  unfolding extVerdict
-  ext-answer e q c d a b = e ∙ ap (λ s. verdict (valueTests s (entries table) table point scale work)) (q ∙ rw (c, d, a, b))
+  pub ext-answer : {n m l k : ℕ} {r s t : Bool} → n ≡ onward m (valueTests (entries table) table point scale work) → m ≡ refuseIf l t 1
+      → t ≡ splits work → l ≡ refuseIf k s 1 → s ≡ splits point → k ≡ refuseIf 0 r 1 → r ≡ splits table
+      → n ≡ extAnswer table point scale work
+  unfolding extAnswer
+  ext-answer e q b f a g d = gone-through _ tt (rw (e, q, b, f, a, g, d))
 
 module _ (point : List ℕ) (scale given : Element) (work out : List ℕ) where
   -- out has gained
@@ -48,9 +52,9 @@ module _ (point : List ℕ) (scale given : Element) (work out : List ℕ) where
       tableWords (2 ^ entries point)
       (λ y. field .add (elementAt out y) (field .mul (field .mul (fromWords scale) (fromWords given)) (eqAt field (pointOf point) y)))
 
-  pub accumulated : {v : Verdict} {w o : List ℕ} → v ≡ accumulateAnswer point scale given work out
-      → w ≡ leaves v (bothTables point scale) work → o ≡ leaves v sums out
-      → (v ≡ accumulateAnswer point scale given work out)
+  pub accumulated : {t v : Verdict} {w o : List ℕ} → t ≡ v → answer t ≡ accumulateAnswer point scale given work out
+      → w ≡ leavesBy v (bothTables point scale) work → o ≡ leavesBy v sums out
+      → (answer v ≡ accumulateAnswer point scale given work out)
       × ((w ≡ accumulateWork point scale given work out) × (o ≡ accumulateOut point scale given work out))
   unfolding accumulateWork accumulateOut
-  accumulated e a b = (e, (a ∙ ap (λ u. leaves u (bothTables point scale) work) e, b ∙ ap (λ u. leaves u sums out) e))
+  accumulated e h a b = (answer-as e h, (left-as (bothTables point scale) work e h a, left-as sums out e h b))

@@ -1,7 +1,7 @@
 -- Split folds, values with a scale, and the weights (document 01, "Split folds"; "Refused calls": "Evaluations, split folds,
 -- `accumulate_into`, `last_scalar`"). Assumes nothing.
 use Prim.Native.Nat.{ℕ, _-_, _^_}
-use mathlib.Core.Bool.{Bool, not, _||_}
+use mathlib.Core.Bool.{not}
 use mathlib.Core.List.{List, [], _∷_}
 use lib.Dec.{eqb, ltb}
 use lib.ListN.{length, getD}
@@ -14,10 +14,7 @@ use Rattle.multilinear.specs.Folds.{foldAt, scaledValueAt, scaledNextValueAt}
 use Rattle.field.specs.Field.{p, Ext, field, base, fromWords}
 use Rattle.field.specs.declared.Element.{Element}
 use Rattle.table.specs.Table.{tableWords, entries, elementAt, pointOf}
-use Rattle.table.specs.Refusals.{Test, _gives_, verdict, leaves, evaluated, splits, variables, tooMany, rowsDiffer, entryTests}
-use Rattle.table.specs.declared.Refusal.the-variants.{Split, TooMany, Lengths, Unreduced}
-use Rattle.table.specs.declared.Verdict.{Verdict}
-use Rattle.table.specs.declared.Evaluation.{Evaluation}
+use Rattle.table.specs.Refusals.{Outcome, Test, _gives_, verdict, leaves, evaluated, splits, notPower, variables, tooManyVariables, tooMany, rowsDiffer}
 use Rattle.work.specs.Work.{workDiffers, workWords}
 
 -- both tables of the point, with the scale
@@ -32,15 +29,27 @@ baseAt table y = base (getD table y 0)
 abbrev pub remains : List ℕ → List ℕ → ℕ
 remains table point = variables (length table) - entries point
 
--- Split folds: 1, 2, 3, 4 (also k above n, work, out), 5
-abbrev pub foldTests : Bool → List ℕ → List ℕ → Element → List ℕ → List ℕ → List Test
-foldTests split table point scale work out =
-    entryTests split (length table) point
-    (ltb (variables (length table)) (entries point) || workDiffers work (entries point) || rowsDiffer out (remains table point))
-    (unreduced p table || unreduced p point || unreduced p (scale .c))
+-- Split folds: 1, 2, 3, 4 (also k above n, work, out), 5. After 1
+abbrev pub sizedFoldTests : List ℕ → List ℕ → Element → List ℕ → List ℕ → List Test
+sizedFoldTests table point scale work out =
+    notPower (length table) gives 2
+    ∷ tooManyVariables (length table) gives 3
+    ∷ tooMany point gives 3
+    ∷ ltb (variables (length table)) (entries point) gives 4
+    ∷ workDiffers work (entries point) gives 4
+    ∷ rowsDiffer out (remains table point) gives 4
+    ∷ unreduced p table gives 5
+    ∷ unreduced p point gives 5
+    ∷ unreduced p (scale .c) gives 5
+    ∷ []
 
-unfoldable pub foldAnswer : List ℕ → List ℕ → Element → List ℕ → List ℕ → Verdict
-foldAnswer table point scale work out = verdict (foldTests (splits point || splits work || splits out) table point scale work out)
+-- and whole
+abbrev pub foldTests : List ℕ → List ℕ → Element → List ℕ → List ℕ → List Test
+foldTests table point scale work out =
+    splits point gives 1 ∷ splits work gives 1 ∷ splits out gives 1 ∷ sizedFoldTests table point scale work out
+
+unfoldable pub foldAnswer : List ℕ → List ℕ → Element → List ℕ → List ℕ → ℕ
+foldAnswer table point scale work out = verdict (foldTests table point scale work out)
 
 unfoldable pub foldWork : List ℕ → List ℕ → Element → List ℕ → List ℕ → List ℕ
 foldWork table point scale work out = leaves (foldAnswer table point scale work out) (bothTables point scale) work
@@ -54,62 +63,90 @@ folded side weight table point scale =
 unfoldable pub foldOut : Side → Weight → List ℕ → List ℕ → Element → List ℕ → List ℕ → List ℕ
 foldOut side weight table point scale work out = leaves (foldAnswer table point scale work out) (folded side weight table point scale) out
 
--- Evaluations: 1, 2, 3, 4 (also work), 5; k = n
-abbrev pub valueTests : Bool → ℕ → List ℕ → List ℕ → Element → List ℕ → List Test
-valueTests split count table point scale work =
-    entryTests split count point (not (eqb (variables count) (entries point)) || workDiffers work (entries point))
-    (unreduced p table || unreduced p point || unreduced p (scale .c))
+-- Evaluations: 1, 2, 3, 4 (also work), 5; k = n. After 1, of a table of `count` entries
+abbrev pub valueTests : ℕ → List ℕ → List ℕ → Element → List ℕ → List Test
+valueTests count table point scale work =
+    notPower count gives 2
+    ∷ tooManyVariables count gives 3
+    ∷ tooMany point gives 3
+    ∷ not (eqb (variables count) (entries point)) gives 4
+    ∷ workDiffers work (entries point) gives 4
+    ∷ unreduced p table gives 5
+    ∷ unreduced p point gives 5
+    ∷ unreduced p (scale .c) gives 5
+    ∷ []
 
 -- of a table of base words
-unfoldable pub baseVerdict : List ℕ → List ℕ → Element → List ℕ → Verdict
-baseVerdict table point scale work = verdict (valueTests (splits point || splits work) (length table) table point scale work)
+abbrev pub baseTests : List ℕ → List ℕ → Element → List ℕ → List Test
+baseTests table point scale work = splits point gives 1 ∷ splits work gives 1 ∷ valueTests (length table) table point scale work
+
+unfoldable pub baseAnswer : List ℕ → List ℕ → Element → List ℕ → ℕ
+baseAnswer table point scale work = verdict (baseTests table point scale work)
 
 unfoldable pub baseWork : List ℕ → List ℕ → Element → List ℕ → List ℕ
-baseWork table point scale work = leaves (baseVerdict table point scale work) (bothTables point scale) work
+baseWork table point scale work = leaves (baseAnswer table point scale work) (bothTables point scale) work
 
-unfoldable pub evalBaseAnswer : List ℕ → List ℕ → Element → List ℕ → Evaluation
+unfoldable pub evalBaseAnswer : List ℕ → List ℕ → Element → List ℕ → Outcome
 evalBaseAnswer table point scale work =
-    evaluated (baseVerdict table point scale work) (scaledValueAt field (pointOf point) (fromWords scale) (baseAt table))
+    evaluated (baseAnswer table point scale work) (scaledValueAt field (pointOf point) (fromWords scale) (baseAt table))
 
-unfoldable pub evalNextBaseAnswer : List ℕ → List ℕ → Element → List ℕ → Evaluation
+unfoldable pub evalNextBaseAnswer : List ℕ → List ℕ → Element → List ℕ → Outcome
 evalNextBaseAnswer table point scale work =
-    evaluated (baseVerdict table point scale work) (scaledNextValueAt field (pointOf point) (fromWords scale) (baseAt table))
+    evaluated (baseAnswer table point scale work) (scaledNextValueAt field (pointOf point) (fromWords scale) (baseAt table))
 
 -- of a table of elements
-unfoldable pub extVerdict : List ℕ → List ℕ → Element → List ℕ → Verdict
-extVerdict table point scale work =
-    verdict (valueTests (splits table || splits point || splits work) (entries table) table point scale work)
+abbrev pub extTests : List ℕ → List ℕ → Element → List ℕ → List Test
+extTests table point scale work =
+    splits table gives 1 ∷ splits point gives 1 ∷ splits work gives 1 ∷ valueTests (entries table) table point scale work
+
+unfoldable pub extAnswer : List ℕ → List ℕ → Element → List ℕ → ℕ
+extAnswer table point scale work = verdict (extTests table point scale work)
 
 unfoldable pub extWork : List ℕ → List ℕ → Element → List ℕ → List ℕ
-extWork table point scale work = leaves (extVerdict table point scale work) (bothTables point scale) work
+extWork table point scale work = leaves (extAnswer table point scale work) (bothTables point scale) work
 
-unfoldable pub evalExtAnswer : List ℕ → List ℕ → Element → List ℕ → Evaluation
+unfoldable pub evalExtAnswer : List ℕ → List ℕ → Element → List ℕ → Outcome
 evalExtAnswer table point scale work =
-    evaluated (extVerdict table point scale work) (scaledValueAt field (pointOf point) (fromWords scale) (elementAt table))
+    evaluated (extAnswer table point scale work) (scaledValueAt field (pointOf point) (fromWords scale) (elementAt table))
 
 -- `last_scalar`: 1, 3, 4 (work), 5; scale·eq[N-1]
 abbrev pub lastTests : List ℕ → Element → List ℕ → List Test
 lastTests point scale work =
-    (splits point || splits work gives Split)
-    ∷ (tooMany point gives TooMany)
-    ∷ (workDiffers work (entries point) gives Lengths)
-    ∷ (unreduced p point || unreduced p (scale .c) gives Unreduced)
+    splits point gives 1
+    ∷ splits work gives 1
+    ∷ tooMany point gives 3
+    ∷ workDiffers work (entries point) gives 4
+    ∷ unreduced p point gives 5
+    ∷ unreduced p (scale .c) gives 5
     ∷ []
 
-unfoldable pub lastAnswer : List ℕ → Element → List ℕ → Evaluation
+unfoldable pub lastAnswer : List ℕ → Element → List ℕ → Outcome
 lastAnswer point scale work =
     evaluated (verdict (lastTests point scale work)) (field .mul (fromWords scale) (eqAt field (pointOf point) (lastRow field (pointOf point))))
 
 unfoldable pub lastWork : List ℕ → Element → List ℕ → List ℕ
 lastWork point scale work = leaves (verdict (lastTests point scale work)) (bothTables point scale) work
 
--- `accumulate_into`: out is the table, and "accumulated out is input"; out[y] gains own scale·given scale·eq[y]
-unfoldable pub accumulateAnswer : List ℕ → Element → Element → List ℕ → List ℕ → Verdict
-accumulateAnswer point scale given work out =
-    verdict
-    (entryTests (splits point || splits work || splits out) (entries out) point
-    (not (eqb (variables (entries out)) (entries point)) || workDiffers work (entries point))
-    (unreduced p out || unreduced p point || (unreduced p (scale .c) || unreduced p (given .c))))
+-- `accumulate_into`: out is the table, and "accumulated out is input": 1, 2, 3, 4 (also work), 5
+abbrev pub accumulateTests : List ℕ → Element → Element → List ℕ → List ℕ → List Test
+accumulateTests point scale given work out =
+    splits point gives 1
+    ∷ splits work gives 1
+    ∷ splits out gives 1
+    ∷ notPower (entries out) gives 2
+    ∷ tooManyVariables (entries out) gives 3
+    ∷ tooMany point gives 3
+    ∷ not (eqb (variables (entries out)) (entries point)) gives 4
+    ∷ workDiffers work (entries point) gives 4
+    ∷ unreduced p out gives 5
+    ∷ unreduced p point gives 5
+    ∷ unreduced p (scale .c) gives 5
+    ∷ unreduced p (given .c) gives 5
+    ∷ []
+
+-- out[y] gains own scale·given scale·eq[y]
+unfoldable pub accumulateAnswer : List ℕ → Element → Element → List ℕ → List ℕ → ℕ
+accumulateAnswer point scale given work out = verdict (accumulateTests point scale given work out)
 
 unfoldable pub accumulateWork : List ℕ → Element → Element → List ℕ → List ℕ → List ℕ
 accumulateWork point scale given work out = leaves (accumulateAnswer point scale given work out) (bothTables point scale) work

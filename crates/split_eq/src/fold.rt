@@ -7,6 +7,7 @@
 // being left out, and the pair at the edge of an eq0 block is a pair like every other.
 use field::Element;
 use multilinear::Side;
+use table::Refusal;
 use table::Verdict;
 ghost use mathlib.Core.Path.{_≡_};
 ghost use Prim.Native.Nat.{_≤_};
@@ -16,6 +17,7 @@ ghost use Rattle.multilinear.specs.declared.Weight.the-variants.{Plain, Shifted
 ghost use Rattle.multilinear.specs.Inner.{weightBy, movedAt};
 ghost use Rattle.field.specs.Field.{field, base, fromWords};
 ghost use Rattle.table.specs.Table.{tableWords, elements};
+ghost use Rattle.table.specs.Refusals.{answer};
 ghost use Rattle.split_eq.specs.Split.{foldAnswer, foldWork, foldOut};
 ghost use Rattle.split_eq.specs.Inner.{Folds, Weighed};
 
@@ -26,7 +28,7 @@ pub fn compress_prefix(
     work: &mut [u32],
     out: &mut [u32],
 ) -> Verdict
-    ensures { λ r. ⌜ r ≡ foldAnswer (now (table .entry)) (now (point .entry)) scale (now (work .entry)) (now (out .entry)) ⌝ }
+    ensures { λ r. ⌜ answer r ≡ foldAnswer (now (table .entry)) (now (point .entry)) scale (now (work .entry)) (now (out .entry)) ⌝ }
     ensures { λ _. ⌜ now (work .exit) ≡ foldWork (now (table .entry)) (now (point .entry)) scale (now (work .entry)) (now (out .entry)) ⌝ }
     ensures { λ _. ⌜ now (out .exit) ≡ foldOut Prefix Plain (now (table .entry)) (now (point .entry)) scale (now (work .entry)) (now (out .entry)) ⌝ }
 {
@@ -40,7 +42,7 @@ pub fn compress_suffix(
     work: &mut [u32],
     out: &mut [u32],
 ) -> Verdict
-    ensures { λ r. ⌜ r ≡ foldAnswer (now (table .entry)) (now (point .entry)) scale (now (work .entry)) (now (out .entry)) ⌝ }
+    ensures { λ r. ⌜ answer r ≡ foldAnswer (now (table .entry)) (now (point .entry)) scale (now (work .entry)) (now (out .entry)) ⌝ }
     ensures { λ _. ⌜ now (work .exit) ≡ foldWork (now (table .entry)) (now (point .entry)) scale (now (work .entry)) (now (out .entry)) ⌝ }
     ensures { λ _. ⌜ now (out .exit) ≡ foldOut Suffix Plain (now (table .entry)) (now (point .entry)) scale (now (work .entry)) (now (out .entry)) ⌝ }
 {
@@ -54,7 +56,7 @@ pub fn compress_prefix_shifted(
     work: &mut [u32],
     out: &mut [u32],
 ) -> Verdict
-    ensures { λ r. ⌜ r ≡ foldAnswer (now (table .entry)) (now (point .entry)) scale (now (work .entry)) (now (out .entry)) ⌝ }
+    ensures { λ r. ⌜ answer r ≡ foldAnswer (now (table .entry)) (now (point .entry)) scale (now (work .entry)) (now (out .entry)) ⌝ }
     ensures { λ _. ⌜ now (work .exit) ≡ foldWork (now (table .entry)) (now (point .entry)) scale (now (work .entry)) (now (out .entry)) ⌝ }
     ensures { λ _. ⌜ now (out .exit) ≡ foldOut Prefix Shifted (now (table .entry)) (now (point .entry)) scale (now (work .entry)) (now (out .entry)) ⌝ }
 {
@@ -68,7 +70,7 @@ pub fn compress_suffix_shifted(
     work: &mut [u32],
     out: &mut [u32],
 ) -> Verdict
-    ensures { λ r. ⌜ r ≡ foldAnswer (now (table .entry)) (now (point .entry)) scale (now (work .entry)) (now (out .entry)) ⌝ }
+    ensures { λ r. ⌜ answer r ≡ foldAnswer (now (table .entry)) (now (point .entry)) scale (now (work .entry)) (now (out .entry)) ⌝ }
     ensures { λ _. ⌜ now (work .exit) ≡ foldWork (now (table .entry)) (now (point .entry)) scale (now (work .entry)) (now (out .entry)) ⌝ }
     ensures { λ _. ⌜ now (out .exit) ≡ foldOut Suffix Shifted (now (table .entry)) (now (point .entry)) scale (now (work .entry)) (now (out .entry)) ⌝ }
 {
@@ -86,7 +88,7 @@ fn compress(
     out: &mut [u32],
 ) -> Verdict
     requires { ⌜ skip ≤ 1 ⌝ }
-    ensures { λ r. ⌜ r ≡ foldAnswer (now (table .entry)) (now (point .entry)) scale (now (work .entry)) (now (out .entry)) ⌝ }
+    ensures { λ r. ⌜ answer r ≡ foldAnswer (now (table .entry)) (now (point .entry)) scale (now (work .entry)) (now (out .entry)) ⌝ }
     ensures { λ _. ⌜ now (work .exit) ≡ foldWork (now (table .entry)) (now (point .entry)) scale (now (work .entry)) (now (out .entry)) ⌝ }
     ensures { λ _. ⌜ now (out .exit) ≡ foldOut side (weightBy skip) (now (table .entry)) (now (point .entry)) scale (now (work .entry)) (now (out .entry)) ⌝ }
 {
@@ -104,18 +106,25 @@ fn compress(
 }
 
 fn test_fold(table: &[u32], point: &[u32], scale: Element, work: &[u32], out: &[u32]) -> Verdict
-    ensures { λ r. ⌜ r ≡ foldAnswer (now (table .entry)) (now (point .entry)) scale (now (work .entry)) (now (out .entry)) ⌝ }
+    ensures { λ r. ⌜ answer r ≡ foldAnswer (now (table .entry)) (now (point .entry)) scale (now (work .entry)) (now (out .entry)) ⌝ }
 {
     let n = table::variables(table.len());
     let k = point.len() / 4;
     let words = scale.c;
-    let operands = table::either(table::splits(point), table::splits(work));
-    let split = table::either(operands, table::splits(out));
-    let above = table::either(n < k, work::differs(work, k));
-    let lengths = table::either(above, table::rows_differ(out, table::remaining(n, k)));
-    let tables = table::either(field::unreduced(table), field::unreduced(point));
-    let unreduced = table::either(tables, field::unreduced(&words));
-    table::test_entries(split, table.len(), point, lengths, unreduced)
+    Verdict::Accepted
+        .refuse_if(table::splits(point), Refusal::Split)
+        .refuse_if(table::splits(work), Refusal::Split)
+        .refuse_if(table::splits(out), Refusal::Split)
+        .refuse_entries(table.len(), point)
+        .refuse_if(n < k, Refusal::Lengths)
+        .refuse_if(work::differs(work, k), Refusal::Lengths)
+        .refuse_if(
+            table::rows_differ(out, table::remaining(n, k)),
+            Refusal::Lengths,
+        )
+        .refuse_if(field::unreduced(table), Refusal::Unreduced)
+        .refuse_if(field::unreduced(point), Refusal::Unreduced)
+        .refuse_if(field::unreduced(&words), Refusal::Unreduced)
 }
 
 // Few places that are many rows each are summed place by place, and the places of long rows row by row.

@@ -4,12 +4,12 @@ use table::Evaluation;
 use table::Refusal;
 use table::Verdict;
 ghost use mathlib.Core.Path.{_≡_};
-ghost use Rattle.table.specs.Refusals.{verdict};
+ghost use Rattle.table.specs.Refusals.{answer, outcome, verdict};
 ghost use Rattle.split_eq.specs.Split.{lastTests, lastAnswer, lastWork, accumulateAnswer, accumulateWork, accumulateOut};
 
 // scale eq of the last row.
 pub fn last_scalar(point: &[u32], scale: Element, work: &mut [u32]) -> Evaluation
-    ensures { λ r. ⌜ r ≡ lastAnswer (now (point .entry)) scale (now (work .entry)) ⌝ }
+    ensures { λ r. ⌜ outcome r ≡ lastAnswer (now (point .entry)) scale (now (work .entry)) ⌝ }
     ensures { λ _. ⌜ now (work .exit) ≡ lastWork (now (point .entry)) scale (now (work .entry)) ⌝ }
 {
     let tested = test_last(point, scale, work);
@@ -31,7 +31,7 @@ pub fn accumulate_into(
     work: &mut [u32],
     out: &mut [u32],
 ) -> Verdict
-    ensures { λ r. ⌜ r ≡ accumulateAnswer (now (point .entry)) scale given (now (work .entry)) (now (out .entry)) ⌝ }
+    ensures { λ r. ⌜ answer r ≡ accumulateAnswer (now (point .entry)) scale given (now (work .entry)) (now (out .entry)) ⌝ }
     ensures { λ _. ⌜ now (work .exit) ≡ accumulateWork (now (point .entry)) scale given (now (work .entry)) (now (out .entry)) ⌝ }
     ensures { λ _. ⌜ now (out .exit) ≡ accumulateOut (now (point .entry)) scale given (now (work .entry)) (now (out .entry)) ⌝ }
 {
@@ -48,16 +48,16 @@ pub fn accumulate_into(
 }
 
 fn test_last(point: &[u32], scale: Element, work: &[u32]) -> Verdict
-    ensures { λ r. ⌜ r ≡ verdict (lastTests (now (point .entry)) scale (now (work .entry))) ⌝ }
+    ensures { λ r. ⌜ answer r ≡ verdict (lastTests (now (point .entry)) scale (now (work .entry))) ⌝ }
 {
     let words = scale.c;
-    let split = table::either(table::splits(point), table::splits(work));
-    let unreduced = table::either(field::unreduced(point), field::unreduced(&words));
     Verdict::Accepted
-        .refuse_if(split, Refusal::Split)
+        .refuse_if(table::splits(point), Refusal::Split)
+        .refuse_if(table::splits(work), Refusal::Split)
         .refuse_if(table::too_many(point), Refusal::TooMany)
         .refuse_if(work::differs(work, point.len() / 4), Refusal::Lengths)
-        .refuse_if(unreduced, Refusal::Unreduced)
+        .refuse_if(field::unreduced(point), Refusal::Unreduced)
+        .refuse_if(field::unreduced(&words), Refusal::Unreduced)
 }
 
 fn test_accumulate(
@@ -67,16 +67,21 @@ fn test_accumulate(
     work: &[u32],
     out: &[u32],
 ) -> Verdict
-    ensures { λ r. ⌜ r ≡ accumulateAnswer (now (point .entry)) scale given (now (work .entry)) (now (out .entry)) ⌝ }
+    ensures { λ r. ⌜ answer r ≡ accumulateAnswer (now (point .entry)) scale given (now (work .entry)) (now (out .entry)) ⌝ }
 {
     let count = out.len() / 4;
     let k = point.len() / 4;
     let own = scale.c;
     let other = given.c;
-    let operands = table::either(table::splits(point), table::splits(work));
-    let split = table::either(operands, table::splits(out));
-    let lengths = table::either(table::variables(count) != k, work::differs(work, k));
-    let tables = table::either(field::unreduced(out), field::unreduced(point));
-    let scales = table::either(field::unreduced(&own), field::unreduced(&other));
-    table::test_entries(split, count, point, lengths, table::either(tables, scales))
+    Verdict::Accepted
+        .refuse_if(table::splits(point), Refusal::Split)
+        .refuse_if(table::splits(work), Refusal::Split)
+        .refuse_if(table::splits(out), Refusal::Split)
+        .refuse_entries(count, point)
+        .refuse_if(table::variables(count) != k, Refusal::Lengths)
+        .refuse_if(work::differs(work, k), Refusal::Lengths)
+        .refuse_if(field::unreduced(out), Refusal::Unreduced)
+        .refuse_if(field::unreduced(point), Refusal::Unreduced)
+        .refuse_if(field::unreduced(&own), Refusal::Unreduced)
+        .refuse_if(field::unreduced(&other), Refusal::Unreduced)
 }

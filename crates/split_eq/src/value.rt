@@ -1,13 +1,15 @@
 // Values with a scale. A table of no variable has its constant, and the next value of one variable its entry 1, without the scale.
 use field::Element;
 use table::Evaluation;
+use table::Refusal;
 use table::Verdict;
 ghost use mathlib.Core.Path.{_≡_};
-ghost use lib.ListN.{length, getD};
+ghost use lib.ListN.{getD};
 ghost use Rattle.multilinear.specs.Folds.{scaledValueAt, scaledNextValueAt};
 ghost use Rattle.field.specs.Field.{field, base, fromWords, Reduced, Holds};
-ghost use Rattle.table.specs.Table.{entries, elementAt, elements};
-ghost use Rattle.table.specs.Refusals.{verdict};
+ghost use Rattle.table.specs.Table.{elementAt, elements};
+ghost use Rattle.table.specs.Refusals.{answer, outcome};
+ghost use Rattle.table.specs.Inner.{onward};
 ghost use Rattle.point.specs.Inner.{Coordinates};
 ghost use Rattle.weigh.specs.Weigh.{Whole, WholeExt};
 ghost use Rattle.split_eq.specs.Split.{valueTests, baseWork, extWork, evalBaseAnswer, evalExtAnswer, evalNextBaseAnswer};
@@ -15,10 +17,12 @@ ghost use Rattle.split_eq.specs.Inner.{Weighed};
 
 // scale times the value of a table of base words.
 pub fn eval_base(table: &[u32], point: &[u32], scale: Element, work: &mut [u32]) -> Evaluation
-    ensures { λ r. ⌜ r ≡ evalBaseAnswer (now (table .entry)) (now (point .entry)) scale (now (work .entry)) ⌝ }
+    ensures { λ r. ⌜ outcome r ≡ evalBaseAnswer (now (table .entry)) (now (point .entry)) scale (now (work .entry)) ⌝ }
     ensures { λ _. ⌜ now (work .exit) ≡ baseWork (now (table .entry)) (now (point .entry)) scale (now (work .entry)) ⌝ }
 {
-    let split = table::either(table::splits(point), table::splits(work));
+    let split = Verdict::Accepted
+        .refuse_if(table::splits(point), Refusal::Split)
+        .refuse_if(table::splits(work), Refusal::Split);
     let tested = test_value(split, table.len(), table, point, scale, work);
     match tested {
         Verdict::Refused(refusal) => Evaluation::Refused(refusal),
@@ -32,11 +36,13 @@ pub fn eval_base(table: &[u32], point: &[u32], scale: Element, work: &mut [u32])
 
 // scale times the value of a table of elements.
 pub fn eval_ext(table: &[u32], point: &[u32], scale: Element, work: &mut [u32]) -> Evaluation
-    ensures { λ r. ⌜ r ≡ evalExtAnswer (now (table .entry)) (now (point .entry)) scale (now (work .entry)) ⌝ }
+    ensures { λ r. ⌜ outcome r ≡ evalExtAnswer (now (table .entry)) (now (point .entry)) scale (now (work .entry)) ⌝ }
     ensures { λ _. ⌜ now (work .exit) ≡ extWork (now (table .entry)) (now (point .entry)) scale (now (work .entry)) ⌝ }
 {
-    let operands = table::either(table::splits(table), table::splits(point));
-    let split = table::either(operands, table::splits(work));
+    let split = Verdict::Accepted
+        .refuse_if(table::splits(table), Refusal::Split)
+        .refuse_if(table::splits(point), Refusal::Split)
+        .refuse_if(table::splits(work), Refusal::Split);
     let tested = test_value(split, table.len() / 4, table, point, scale, work);
     match tested {
         Verdict::Refused(refusal) => Evaluation::Refused(refusal),
@@ -50,10 +56,12 @@ pub fn eval_ext(table: &[u32], point: &[u32], scale: Element, work: &mut [u32]) 
 
 // scale times the sum of next[y] table[y].
 pub fn eval_next_base(table: &[u32], point: &[u32], scale: Element, work: &mut [u32]) -> Evaluation
-    ensures { λ r. ⌜ r ≡ evalNextBaseAnswer (now (table .entry)) (now (point .entry)) scale (now (work .entry)) ⌝ }
+    ensures { λ r. ⌜ outcome r ≡ evalNextBaseAnswer (now (table .entry)) (now (point .entry)) scale (now (work .entry)) ⌝ }
     ensures { λ _. ⌜ now (work .exit) ≡ baseWork (now (table .entry)) (now (point .entry)) scale (now (work .entry)) ⌝ }
 {
-    let split = table::either(table::splits(point), table::splits(work));
+    let split = Verdict::Accepted
+        .refuse_if(table::splits(point), Refusal::Split)
+        .refuse_if(table::splits(work), Refusal::Split);
     let tested = test_value(split, table.len(), table, point, scale, work);
     match tested {
         Verdict::Refused(refusal) => Evaluation::Refused(refusal),
@@ -65,22 +73,26 @@ pub fn eval_next_base(table: &[u32], point: &[u32], scale: Element, work: &mut [
     }
 }
 
+// The tests of an evaluation after 1; the table has `count` entries.
 fn test_value(
-    split: bool,
+    split: Verdict,
     count: usize,
     table: &[u32],
     point: &[u32],
     scale: Element,
     work: &[u32],
 ) -> Verdict
-    ensures { λ r. ⌜ r ≡ verdict (valueTests split count (now (table .entry)) (now (point .entry)) scale (now (work .entry))) ⌝ }
+    ensures { λ r. ⌜ answer r ≡ onward (answer split) (valueTests count (now (table .entry)) (now (point .entry)) scale (now (work .entry))) ⌝ }
 {
     let k = point.len() / 4;
     let words = scale.c;
-    let lengths = table::either(table::variables(count) != k, work::differs(work, k));
-    let tables = table::either(field::unreduced(table), field::unreduced(point));
-    let unreduced = table::either(tables, field::unreduced(&words));
-    table::test_entries(split, count, point, lengths, unreduced)
+    split
+        .refuse_entries(count, point)
+        .refuse_if(table::variables(count) != k, Refusal::Lengths)
+        .refuse_if(work::differs(work, k), Refusal::Lengths)
+        .refuse_if(field::unreduced(table), Refusal::Unreduced)
+        .refuse_if(field::unreduced(point), Refusal::Unreduced)
+        .refuse_if(field::unreduced(&words), Refusal::Unreduced)
 }
 
 fn scaled_value(table: &[u32], point: &[u32], n: usize, scale: Element) -> Element

@@ -3,7 +3,9 @@ pub mod Parts
 pub mod Placed
 pub mod Tests
 pub mod Powers
+pub mod Answers
 pub mod Verdicts
 pub mod Outcomes
+pub mod Fronts
 pub mod Gaining
 pub mod Writing

@@ -1,20 +1,19 @@
 -- What the tests say of words: element by element, and of their count. Assumes nothing.
-use mathlib.Core.Path.{_≡_, refl, sym, ap, _∙_}
+use mathlib.Core.Path.{_≡_, refl}
 use mathlib.Core.Bool.{Bool, true, false, not, _||_}
 use Prim.Native.Nat.{ℕ, zero, suc, _+_, _*_, _/_, _%_, _^_, _≤_, _<_}
 use native.Mathlib.Omega.{arith}
 use mathlib.Core.List.{List, [], _∷_, _++_}
-use lib.Dec.{leb, eqb}
+use lib.Dec.{eqb}
 use lib.ListN.{length, getD}
-use lib.Pow.{pow-mono}
-use borrow.Author.Tests.{eqb-true, not-false, eq-eqb, ne-eqb, le-leb, lt-leb}
+use borrow.Author.Tests.{eqb-true, not-false, lt-leb}
 use Rattle.algebra.specs.Words.{wordsOf, unreduced}
 use Rattle.algebra.proofs.Words.{below, unreduced-append, words-reduced}
 use Rattle.field.specs.Field.{p, p-pos, Ext, Reduced, Holds}
 use Rattle.field.specs.declared.Element.{Element}
 use Rattle.field.proofs.Laws.{holds-again}
 use Rattle.table.specs.Table.{tableWords, getAt, elementAt, entries}
-use Rattle.table.specs.Refusals.{splits, tooMany, rowsDiffer, most}
+use Rattle.table.specs.Refusals.{splits}
 
 -- 5 does not hold: each element is reduced
 pub reduced-at : (ws : List ℕ) → unreduced p ws ≡ false → (i : ℕ) → Reduced (getAt ws i)
@@ -44,7 +43,7 @@ whole ws h =
 pub same : (a b : ℕ) → not (eqb a b) ≡ false → a ≡ b
 same a b h = eqb-true a b (not-false (eqb a b) h)
 
--- two tests under one number
+-- neither of two conditions holds
 pub or-none : (a b : Bool) → a || b ≡ false → (a ≡ false) × (b ≡ false)
 or-none true b h = absurd (let z : _≡_ {A = ℕ} 0 1 = cc in omega arith)
 or-none false b h = (refl, h)

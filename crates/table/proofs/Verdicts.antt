@@ -1,62 +1,83 @@
 -- A list of tests gone through one by one gives its verdict, and what an accepted list says. Assumes nothing.
 use mathlib.Core.Path.{_≡_, refl, sym, ap, _∙_}
 use mathlib.Core.Bool.{Bool, true, false, cond}
-use Prim.Native.Nat.{ℕ}
+use Prim.Native.Nat.{ℕ, zero, suc}
 use native.Mathlib.Omega.{arith}
 use mathlib.Core.List.{List, [], _∷_, _++_}
+use Rattle.table.specs.Refusals.{Test, number, answer, verdict}
 use Rattle.table.specs.declared.Refusal.{Refusal}
 use Rattle.table.specs.declared.Verdict.{Verdict}
-use Rattle.table.specs.declared.Verdict.the-variants.{Accepted, Refused}
-use Rattle.table.specs.Refusals.{Test, verdict}
-use Rattle.table.specs.Inner.{refuseIf}
+use Rattle.table.specs.declared.Verdict.the-variants.{Refused}
+use Rattle.table.specs.Inner.{refuseIf, onward}
+use Rattle.table.proofs.Answers.{number-some}
 
--- the tests ts after a verdict
-abbrev pub onward : Verdict → List Test → Verdict
-onward v [] = v
-onward v (t ∷ ts) = onward (refuseIf v (t .holds) (t .refusal)) ts
+-- A, where n is not 0
+abbrev Unless : ℕ → Type 0 → Type 0
+Unless zero A = ⊥
+Unless (suc n) A = A
 
-onward-refused : (r : Refusal) (ts : List Test) → onward (Refused r) ts ≡ Refused r
-onward-refused r [] = refl
-onward-refused r (t ∷ ts) = onward-refused r ts
+-- no test gives 0: `tt` for a list that is written out
+abbrev pub Numbered : List Test → Type 0
+Numbered [] = Unit
+Numbered (t ∷ ts) = Unless (t .number) (Numbered ts)
 
-onward-verdict : (ts : List Test) → onward Accepted ts ≡ verdict ts
-unfolding verdict
-onward-verdict [] = refl
-onward-verdict (t ∷ ts) = go (t .holds) (onward-verdict ts)
+onward-given : (n : ℕ) (ts : List Test) → onward (suc n) ts ≡ suc n
+unfolding refuseIf
+onward-given n [] = refl
+onward-given n (t ∷ ts) = onward-given n ts
+
+onward-verdict : (ts : List Test) → Numbered ts → onward 0 ts ≡ verdict ts
+unfolding verdict refuseIf
+onward-verdict [] h = refl
+onward-verdict (t ∷ ts) h = go (t .holds) (t .number) h (onward-verdict ts)
   where
-    go : (b : Bool) → onward Accepted ts ≡ verdict ts
-        → onward (cond b (Refused (t .refusal)) Accepted) ts ≡ cond b (Refused (t .refusal)) (verdict ts)
-    go true ih = onward-refused (t .refusal) ts
-    go false ih = ih
+    go : (b : Bool) (n : ℕ) → Unless n (Numbered ts) → (Numbered ts → onward 0 ts ≡ verdict ts)
+        → onward (cond b n 0) ts ≡ cond b n (verdict ts)
+    go b zero h ih = absurd h
+    go true (suc n) h ih = onward-given n ts
+    go false (suc n) h ih = ih h
 
-pub gone-through : (ts : List Test) {v : Verdict} → v ≡ onward Accepted ts → v ≡ verdict ts
-gone-through ts e = e ∙ onward-verdict ts
+pub gone-through : (ts : List Test) → Numbered ts → {n : ℕ} → n ≡ onward 0 ts → n ≡ verdict ts
+gone-through ts h e = e ∙ onward-verdict ts h
 
-verdict-more : (ts : List Test) (t : Test) → verdict (ts ++ t ∷ []) ≡ refuseIf (verdict ts) (t .holds) (t .refusal)
-unfolding verdict
-verdict-more [] t = refl
-verdict-more (u ∷ ts) t = go (u .holds) (verdict-more ts t)
+-- a refusal that was given stays
+pub stays : {r : Refusal} {v : Verdict} → v ≡ Refused r → (test : Bool) (n : ℕ) → number r ≡ refuseIf (answer v) test n
+unfolding refuseIf
+stays {r} e test n = rw e (go (number r) (number-some r))
   where
-    go : (b : Bool) → verdict (ts ++ t ∷ []) ≡ refuseIf (verdict ts) (t .holds) (t .refusal)
-        → cond b (Refused (u .refusal)) (verdict (ts ++ t ∷ []))
-        ≡ refuseIf (cond b (Refused (u .refusal)) (verdict ts)) (t .holds) (t .refusal)
-    go true ih = refl
-    go false ih = ih
+    go : (m : ℕ) → (0 ≡ m → ⊥) → m ≡ refuseIf m test n
+    go zero h = absurd (h refl)
+    go (suc m) h = refl
 
--- one test more, after the verdict v on the tests ts
-pub one-more : (ts : List Test) (t : Test) {v : Verdict} → v ≡ verdict ts → refuseIf v (t .holds) (t .refusal) ≡ verdict (ts ++ t ∷ [])
-one-more ts t e = ap (λ v. refuseIf v (t .holds) (t .refusal)) e ∙ sym (verdict-more ts t)
+-- one test more, after the verdict n on the tests ts
+verdict-more : (ts : List Test) → Numbered ts → (t : Test) → verdict (ts ++ t ∷ []) ≡ refuseIf (verdict ts) (t .holds) (t .number)
+unfolding verdict refuseIf
+verdict-more [] h t = refl
+verdict-more (u ∷ ts) h t = go (u .holds) (u .number) h (λ k. verdict-more ts k t)
+  where
+    go : (b : Bool) (n : ℕ) → Unless n (Numbered ts)
+        → (Numbered ts → verdict (ts ++ t ∷ []) ≡ refuseIf (verdict ts) (t .holds) (t .number))
+        → cond b n (verdict (ts ++ t ∷ [])) ≡ refuseIf (cond b n (verdict ts)) (t .holds) (t .number)
+    go b zero h ih = absurd h
+    go true (suc n) h ih = refl
+    go false (suc n) h ih = ih h
+
+pub one-more : (ts : List Test) → Numbered ts → (t : Test) {n : ℕ} → n ≡ verdict ts
+    → refuseIf n (t .holds) (t .number) ≡ verdict (ts ++ t ∷ [])
+one-more ts h t e = ap (λ n. refuseIf n (t .holds) (t .number)) e ∙ sym (verdict-more ts h t)
 
 -- no test holds
 abbrev pub Clear : List Test → Type 0
 Clear [] = Unit
 Clear (t ∷ ts) = (t .holds ≡ false) × Clear ts
 
-pub clear : (ts : List Test) → Accepted ≡ verdict ts → Clear ts
+pub clear : (ts : List Test) → Numbered ts → 0 ≡ verdict ts → Clear ts
 unfolding verdict
-clear [] h = tt
-clear (t ∷ ts) h = go (t .holds) h (clear ts)
+clear [] h e = tt
+clear (t ∷ ts) h e = go (t .holds) (t .number) h e (clear ts)
   where
-    go : (b : Bool) → Accepted ≡ cond b (Refused (t .refusal)) (verdict ts) → (Accepted ≡ verdict ts → Clear ts) → (b ≡ false) × Clear ts
-    go true e f = absurd (let z : _≡_ {A = ℕ} 0 1 = cc in omega arith)
-    go false e f = (refl, f e)
+    go : (b : Bool) (n : ℕ) → Unless n (Numbered ts) → 0 ≡ cond b n (verdict ts) → (Numbered ts → 0 ≡ verdict ts → Clear ts)
+        → (b ≡ false) × Clear ts
+    go b zero h e f = absurd h
+    go true (suc n) h e f = absurd (omega arith)
+    go false (suc n) h e f = (refl, f h e)

@@ -1,11 +1,13 @@
--- Refused calls (document 01, "Refused calls, by operation"). Assumes nothing.
-use Prim.Native.Nat.{ℕ, _^_, _%_}
-use mathlib.Core.Bool.{Bool, not, cond, _||_}
+-- Answers in numbers, and refused calls (document 01, "Refused calls, by operation"). Assumes nothing.
+use Prim.Native.Nat.{ℕ, zero, suc, _^_, _%_}
+use mathlib.Core.Bool.{Bool, not, cond}
 use mathlib.Core.List.{List, [], _∷_}
 use lib.Dec.{eqb, ltb}
 use lib.Count.{ones, trailingZeros}
 use lib.ListN.{length}
-use Rattle.field.specs.Field.{Ext, toValue}
+use Rattle.algebra.specs.Words.{wordsOf}
+use Rattle.field.specs.Field.{Ext}
+use Rattle.field.specs.declared.Value.{Value}
 use Rattle.table.specs.declared.Refusal.{Refusal}
 use Rattle.table.specs.declared.Refusal.the-variants.{Split, NotPower, TooMany, Lengths, Unreduced, Constant, NoVertex, TooLong, Missing, Closed, Broken, NotFrame, Coordinates}
 use Rattle.table.specs.declared.Verdict.{Verdict}
@@ -30,34 +32,50 @@ number Broken = 11
 number NotFrame = 12
 number Coordinates = 13
 
--- an answer as a number: 0, or the refusal's
+-- the number of a `Verdict`: 0, or the refusal's
 abbrev pub answer : Verdict → ℕ
 answer Accepted = 0
 answer (Refused r) = number r
 
--- a test of an operation's list, and the refusal where it holds
+-- an answer with values: its number, and the values' words
+pub record Outcome : Type 0 where
+  pub number : ℕ
+  pub words : List ℕ
+
+abbrev pub valueWords : Value → List ℕ
+valueWords v = v .c0 ∷ v .c1 ∷ v .c2 ∷ v .c3 ∷ []
+
+-- number and words of an `Evaluation`
+abbrev pub outcome : Evaluation → Outcome
+outcome (evaluation.Value v) = record { number = 0; words = valueWords v }
+outcome (evaluation.Refused r) = record { number = number r; words = [] }
+
+-- a test of an operation's list, and the number where it holds
 pub record Test : Type 0 where
   pub holds : Bool
-  pub refusal : Refusal
+  pub number : ℕ
 
-abbrev pub _gives_ : Bool → Refusal → Test
-b gives r = record { holds = b; refusal = r }
+abbrev pub _gives_ : Bool → ℕ → Test
+b gives n = record { holds = b; number = n }
 
-infix 20 _gives_
--- "The first that applies, as ordered, is given, and only then"
-unfoldable pub verdict : List Test → Verdict
-verdict [] = Accepted
-verdict (t ∷ ts) = cond (t .holds) (Refused (t .refusal)) (verdict ts)
+infix 70 _gives_
+-- "The first that applies, as ordered, is given, and only then"; 0 where none does
+unfoldable pub verdict : List Test → ℕ
+verdict [] = 0
+verdict (t ∷ ts) = cond (t .holds) (t .number) (verdict ts)
 
--- what a call leaves: `new` where it is accepted, and what was handed to it otherwise
-abbrev pub leaves {ℓ} : {A : Type ℓ} → Verdict → A → A → A
-leaves Accepted new old = new
-leaves (Refused r) new old = old
+-- what a call of this number leaves: `new` at 0, where it is accepted, and what was handed to it otherwise
+abbrev pub leaves {ℓ} : {A : Type ℓ} → ℕ → A → A → A
+leaves zero new old = new
+leaves (suc n) new old = old
 
--- an answer with an element
-abbrev pub evaluated : Verdict → Ext → Evaluation
-evaluated Accepted x = evaluation.Value (toValue x)
-evaluated (Refused r) x = evaluation.Refused r
+-- a call of this number answers these words, and none where it is refused
+abbrev pub given : ℕ → List ℕ → Outcome
+given n words = record { number = n; words = leaves n words [] }
+
+-- and the words of an element
+abbrev pub evaluated : ℕ → Ext → Outcome
+evaluated n x = given n (wordsOf x)
 
 -- 3: over 20 variables or coordinates
 abbrev pub most : ℕ
@@ -85,13 +103,3 @@ variables n = trailingZeros 64 n
 -- 3: over 20 variables
 abbrev pub tooManyVariables : ℕ → Bool
 tooManyVariables n = ltb most (variables n)
-
--- 1, 2, 3, 4, 5 for a table of `count` entries and a point
-abbrev pub entryTests : Bool → ℕ → List ℕ → Bool → Bool → List Test
-entryTests split count point lengths unreduced =
-    (split gives Split)
-    ∷ (notPower count gives NotPower)
-    ∷ (tooManyVariables count || tooMany point gives TooMany)
-    ∷ (lengths gives Lengths)
-    ∷ (unreduced gives Unreduced)
-    ∷ []

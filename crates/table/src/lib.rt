@@ -5,15 +5,15 @@
 use field::Element;
 use field::Value;
 ghost use mathlib.Core.Path.{_≡_};
-ghost use mathlib.Core.Bool.{false, _||_, not};
-ghost use Prim.Native.Nat.{ℕ, _+_, _-_, _*_, _^_, _≤_, _<_};
+ghost use mathlib.Core.Bool.{false, not};
+ghost use Prim.Native.Nat.{_+_, _-_, _*_, _^_, _≤_, _<_};
 ghost use lib.Dec.{eqb};
 ghost use lib.ListN.{length, replicate};
 ghost use Rattle.algebra.specs.Words.{unreduced};
 ghost use Rattle.field.specs.Field.{p, Holds};
 ghost use Rattle.table.specs.Table.{getAt, putAt, elementAt, entries};
-ghost use Rattle.table.specs.Refusals.{verdict, answer, splits, tooMany, rowsDiffer, most, notPower, variables, tooManyVariables, entryTests};
-ghost use Rattle.table.specs.Inner.{refuseIf};
+ghost use Rattle.table.specs.Refusals.{number, answer, splits, tooMany, rowsDiffer, most, notPower, variables, tooManyVariables};
+ghost use Rattle.table.specs.Inner.{refuseIf, onward, entryTests};
 
 // The most variables of a table, and coordinates of a point.
 pub const MOST: usize = 20;
@@ -49,7 +49,7 @@ pub enum Evaluation {
 impl Verdict {
     // The refusal, where none was given yet and the test holds: an operation's list of tests, in order.
     pub fn refuse_if(self, test: bool, refusal: Refusal) -> Verdict
-        ensures { λ r. ⌜ r ≡ refuseIf self test refusal ⌝ }
+        ensures { λ r. ⌜ answer r ≡ refuseIf (answer self) test (number refusal) ⌝ }
     {
         match self {
             Verdict::Refused(first) => Verdict::Refused(first),
@@ -61,6 +61,15 @@ impl Verdict {
                 }
             }
         }
+    }
+
+    // 2, 3, where none was given yet, for a table of `count` entries and a point.
+    pub fn refuse_entries(self, count: usize, point: &[u32]) -> Verdict
+        ensures { λ r. ⌜ answer r ≡ onward (answer self) (entryTests count (now (point .entry))) ⌝ }
+    {
+        self.refuse_if(not_power(count), Refusal::NotPower)
+            .refuse_if(too_many_variables(count), Refusal::TooMany)
+            .refuse_if(too_many(point), Refusal::TooMany)
     }
 
     // 0, or the refusal's number.
@@ -86,12 +95,6 @@ impl Verdict {
             },
         }
     }
-}
-
-pub fn either(a: bool, b: bool) -> bool
-    ensures { λ r. ⌜ r ≡ a || b ⌝ }
-{
-    if a { true } else { b }
 }
 
 // 1: the words split an element.
@@ -144,25 +147,6 @@ pub fn too_many_variables(n: usize) -> bool
     ensures { λ r. ⌜ r ≡ tooManyVariables n ⌝ }
 {
     MOST < variables(n)
-}
-
-// 1, 2, 3, 4, 5 for a table of `count` entries and a point.
-pub fn test_entries(
-    split: bool,
-    count: usize,
-    point: &[u32],
-    lengths: bool,
-    unreduced: bool,
-) -> Verdict
-    ensures { λ r. ⌜ r ≡ verdict (entryTests split count (now (point .entry)) lengths unreduced) ⌝ }
-{
-    let many = either(too_many_variables(count), too_many(point));
-    Verdict::Accepted
-        .refuse_if(split, Refusal::Split)
-        .refuse_if(not_power(count), Refusal::NotPower)
-        .refuse_if(many, Refusal::TooMany)
-        .refuse_if(lengths, Refusal::Lengths)
-        .refuse_if(unreduced, Refusal::Unreduced)
 }
 
 // The smaller of two numbers, a less what it is above b.

@@ -1,10 +1,9 @@
 -- What an accepted shifted fold takes and leaves. Assumes nothing.
 use mathlib.Core.Path.{_≡_, _∙_}
-use mathlib.Core.Bool.{false, _||_}
+use mathlib.Core.Bool.{false}
 use Prim.Native.Nat.{ℕ, _+_, _-_, _*_, _/_, _%_, _^_, _≤_, _<_}
 use native.Mathlib.Omega.{arith}
 use mathlib.Core.List.{List}
-use lib.Dec.{ltb}
 use lib.ListN.{length, getD}
 use borrow.Author.Tests.{ltb-false}
 use Rattle.octets.specs.Octets.{words, octets}
@@ -16,18 +15,19 @@ use Rattle.multilinear.specs.Folds.{foldAt}
 use Rattle.field.specs.Field.{p, field, base, fromWords, Reduced}
 use Rattle.field.specs.declared.Element.{Element}
 use Rattle.table.specs.Table.{tableWords, entries, elements}
-use Rattle.table.specs.Refusals.{leaves, most, notPower, variables, tooMany, tooManyVariables, rowsDiffer}
+use Rattle.table.specs.Refusals.{answer, most, notPower, variables}
 use Rattle.table.specs.declared.Verdict.{Verdict}
-use Rattle.table.proofs.Outcomes.{both}
+use Rattle.table.proofs.Answers.{answer-as}
+use Rattle.table.proofs.Outcomes.{leavesBy, left-as}
 use Rattle.table.proofs.Powers.{power-of}
-use Rattle.table.proofs.Tests.{same, or-none}
+use Rattle.table.proofs.Tests.{same}
 use Rattle.table.proofs.Verdicts.{clear}
 use Rattle.point.specs.Inner.{Coordinates}
 use Rattle.point.proofs.Coordinates.{coordinates}
-use Rattle.work.specs.Work.{first, others, workDiffers, workWords}
-use Rattle.split_eq.specs.Split.{foldTests, bothTables, folded}
+use Rattle.work.specs.Work.{first, others, workWords}
+use Rattle.split_eq.specs.Split.{bothTables, folded}
 use Rattle.byte_fold.specs.Inner.{Folds}
-use Rattle.ward.specs.Ward.{splitsWord, splitsElement, foldAnswer, foldWork, foldOut}
+use Rattle.ward.specs.Ward.{foldAnswer, foldWork, foldOut}
 use Rattle.ward.specs.Inner.{Few, Accepts, Tables}
 use Rattle.ward.proofs.Sizes.{whole-words, few, sized}
 
@@ -54,27 +54,21 @@ module _ (table point : List ℕ) (scale : Element) (work out : List ℕ) where
   pub tested : Accepts table point scale work out → Tested
   unfolding foldAnswer
   tested a =
-      let split = splitsWord table || splitsElement point || (splitsElement work || splitsElement out) in
-      let h = clear (foldTests split (words table) (words point) scale (words work) (words out)) (a .accepted) in
-      let inputs-and-buffers = or-none (splitsWord table || splitsElement point) (splitsElement work || splitsElement out) (h .0) in
-      let inputs = or-none (splitsWord table) (splitsElement point) (inputs-and-buffers .0) in
-      let buffers = or-none (splitsElement work) (splitsElement out) (inputs-and-buffers .1) in
-      let many = or-none (tooManyVariables (length (words table))) (tooMany (words point)) (h .1 .1 .0) in
-      let lengths = or-none (ltb n k || workDiffers (words work) k) (rowsDiffer (words out) (n - k)) (h .1 .1 .1 .0) in
-      let above = or-none (ltb n k) (workDiffers (words work) k) (lengths .0) in
-      let all-below = or-none (unreduced p (words table) || unreduced p (words point)) (unreduced p (scale .c)) (h .1 .1 .1 .1 .0) in
-      let below = or-none (unreduced p (words table)) (unreduced p (words point)) (all-below .0) in
+      let h = clear _ tt (a .accepted) in
+      let entries-are = h .1 .1 .1 .1 in
+      let lengths = entries-are .1 .1 .1 in
+      let below = lengths .1 .1 .1 in
       record {
-        point-few = few point (inputs .1) (many .1);
-        point-is = coordinates (words point) (whole-words point (inputs .1)) (many .1) (below .1);
-        scale-is = record { words-below = all-below .1 };
-        small = ltb-false most n (many .0);
-        fits = ltb-false n k (above .0);
-        whole = same (length table % 4) 0 (inputs .0);
-        power = h .1 .0;
+        point-few = few point (h .1 .0) (entries-are .1 .1 .0);
+        point-is = coordinates (words point) (whole-words point (h .1 .0)) (entries-are .1 .1 .0) (below .1 .0);
+        scale-is = record { words-below = below .1 .1 .0 };
+        small = ltb-false most n (entries-are .1 .0);
+        fits = ltb-false n k (lengths .0);
+        whole = same (length table % 4) 0 (h .0);
+        power = entries-are .0;
         below = below .0;
-        work-room = sized work (buffers .0) (2 ^ first k + 2 ^ others k) (above .1);
-        out-room = sized out (buffers .1) (2 ^ (n - k)) (lengths .1);
+        work-room = sized work (h .1 .1 .0) (2 ^ first k + 2 ^ others k) (lengths .1 .0);
+        out-room = sized out (h .1 .1 .1 .0) (2 ^ (n - k)) (lengths .1 .1 .0);
       }
 
   module _ (t : Tested) where
@@ -120,10 +114,10 @@ module _ (table point : List ℕ) (scale : Element) (work out : List ℕ) where
       folded-as side q = q ∙ (rw (en, ep, words-length point, words-length table))
 
   -- answer, work and out at once
-  pub answered : (side : Side) {v : Verdict} {w o : List ℕ} → v ≡ foldAnswer table point scale work out
-      → w ≡ leaves v (octets (bothTables (words point) scale)) work
-      → o ≡ leaves v (octets (folded side Shifted (words table) (words point) scale)) out
-      → (v ≡ foldAnswer table point scale work out)
+  pub answered : (side : Side) {t v : Verdict} {w o : List ℕ} → t ≡ v → answer t ≡ foldAnswer table point scale work out
+      → w ≡ leavesBy v (octets (bothTables (words point) scale)) work
+      → o ≡ leavesBy v (octets (folded side Shifted (words table) (words point) scale)) out
+      → (answer v ≡ foldAnswer table point scale work out)
       × ((w ≡ foldWork table point scale work out) × (o ≡ foldOut side table point scale work out))
   unfolding foldWork foldOut
-  answered side e l₁ l₂ = (e, (both _ _ e l₁ .1, both _ _ e l₂ .1))
+  answered side e h l₁ l₂ = (answer-as e h, (left-as _ work e h l₁, left-as _ out e h l₂))

@@ -1,4 +1,3 @@
-mod Fronts
 mod Sizes
 mod Answers
 mod VertexOutcomes

@@ -7,13 +7,12 @@ use field::Element;
 use multilinear::Side;
 ghost use mathlib.Core.Path.{_≡_};
 ghost use Rattle.multilinear.specs.declared.Side.the-variants.{Prefix, Suffix};
-ghost use Rattle.table.specs.Refusals.{answer};
 ghost use Rattle.ward.specs.Ward.{vertexAnswer, vertexOut, nextAnswer, nextOut, scaleOf, foldAnswer, foldWork, foldOut};
 
 // out, of one element, becomes eq[vertex].
 #[no_mangle]
 pub extern "C" fn ward_equality_at_vertex(point: &[u8], vertex: u64, out: &mut [u8]) -> u32
-    ensures { λ r. ⌜ r ≡ answer (vertexAnswer (now (point .entry)) vertex (now (out .entry))) ⌝ }
+    ensures { λ r. ⌜ r ≡ vertexAnswer (now (point .entry)) vertex (now (out .entry)) ⌝ }
     ensures { λ _. ⌜ now (out .exit) ≡ vertexOut (now (point .entry)) vertex (now (out .entry)) ⌝ }
 {
     points::equality_at_vertex(point, vertex as usize, out).answer()
@@ -22,7 +21,7 @@ pub extern "C" fn ward_equality_at_vertex(point: &[u8], vertex: u64, out: &mut [
 // out, of three elements, becomes carry, done and omega of two points.
 #[no_mangle]
 pub extern "C" fn ward_eval_next(point: &[u8], row: &[u8], out: &mut [u8]) -> u32
-    ensures { λ r. ⌜ r ≡ answer (nextAnswer (now (point .entry)) (now (row .entry)) (now (out .entry))) ⌝ }
+    ensures { λ r. ⌜ r ≡ nextAnswer (now (point .entry)) (now (row .entry)) (now (out .entry)) ⌝ }
     ensures { λ _. ⌜ now (out .exit) ≡ nextOut (now (point .entry)) (now (row .entry)) (now (out .entry)) ⌝ }
 {
     points::eval_next(point, row, out).answer()
@@ -40,9 +39,12 @@ pub extern "C" fn ward_compress_prefix_shifted(
     work: &mut [u8],
     out: &mut [u8],
 ) -> u32
-    ensures { λ r. ⌜ r ≡ answer (foldAnswer (now (table .entry)) (now (point .entry)) (scaleOf scale0 scale1 scale2 scale3) (now (work .entry)) (now (out .entry))) ⌝ }
-    ensures { λ _. ⌜ now (work .exit) ≡ foldWork (now (table .entry)) (now (point .entry)) (scaleOf scale0 scale1 scale2 scale3) (now (work .entry)) (now (out .entry)) ⌝ }
-    ensures { λ _. ⌜ now (out .exit) ≡ foldOut Prefix (now (table .entry)) (now (point .entry)) (scaleOf scale0 scale1 scale2 scale3) (now (work .entry)) (now (out .entry)) ⌝ }
+    ensures { λ r. ⌜ r
+        ≡ foldAnswer (now (table .entry)) (now (point .entry)) (scaleOf scale0 scale1 scale2 scale3) (now (work .entry)) (now (out .entry)) ⌝ }
+    ensures { λ _. ⌜ now (work .exit)
+        ≡ foldWork (now (table .entry)) (now (point .entry)) (scaleOf scale0 scale1 scale2 scale3) (now (work .entry)) (now (out .entry)) ⌝ }
+    ensures { λ _. ⌜ now (out .exit)
+        ≡ foldOut Prefix (now (table .entry)) (now (point .entry)) (scaleOf scale0 scale1 scale2 scale3) (now (work .entry)) (now (out .entry)) ⌝ }
 {
     let scale = Element {
         c: [scale0, scale1, scale2, scale3],
@@ -62,9 +64,12 @@ pub extern "C" fn ward_compress_suffix_shifted(
     work: &mut [u8],
     out: &mut [u8],
 ) -> u32
-    ensures { λ r. ⌜ r ≡ answer (foldAnswer (now (table .entry)) (now (point .entry)) (scaleOf scale0 scale1 scale2 scale3) (now (work .entry)) (now (out .entry))) ⌝ }
-    ensures { λ _. ⌜ now (work .exit) ≡ foldWork (now (table .entry)) (now (point .entry)) (scaleOf scale0 scale1 scale2 scale3) (now (work .entry)) (now (out .entry)) ⌝ }
-    ensures { λ _. ⌜ now (out .exit) ≡ foldOut Suffix (now (table .entry)) (now (point .entry)) (scaleOf scale0 scale1 scale2 scale3) (now (work .entry)) (now (out .entry)) ⌝ }
+    ensures { λ r. ⌜ r
+        ≡ foldAnswer (now (table .entry)) (now (point .entry)) (scaleOf scale0 scale1 scale2 scale3) (now (work .entry)) (now (out .entry)) ⌝ }
+    ensures { λ _. ⌜ now (work .exit)
+        ≡ foldWork (now (table .entry)) (now (point .entry)) (scaleOf scale0 scale1 scale2 scale3) (now (work .entry)) (now (out .entry)) ⌝ }
+    ensures { λ _. ⌜ now (out .exit)
+        ≡ foldOut Suffix (now (table .entry)) (now (point .entry)) (scaleOf scale0 scale1 scale2 scale3) (now (work .entry)) (now (out .entry)) ⌝ }
 {
     let scale = Element {
         c: [scale0, scale1, scale2, scale3],

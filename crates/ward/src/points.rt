@@ -9,13 +9,13 @@ ghost use mathlib.Core.List.{_++_};
 ghost use Prim.Native.Nat.{_/_};
 ghost use lib.ListN.{length, take, replicate};
 ghost use Rattle.octets.specs.Octets.{words, octets};
-ghost use Rattle.table.specs.Refusals.{verdict};
-ghost use Rattle.point.specs.Point.{vertexAnswer as vertexOfWords, evalNextAnswer as nextOfWords};
+ghost use Rattle.table.specs.Refusals.{answer, valueWords, outcome, verdict};
+ghost use Rattle.point.specs.Point.{vertexAnswer as vertexOfWords, nextOutcome, evalNextAnswer as nextOfWords};
 ghost use Rattle.ward.specs.Ward.{vertexAnswer, vertexOut, nextAnswer, nextOut};
-ghost use Rattle.ward.specs.Inner.{Few, valueWords, vertexSizes, nextSizes};
+ghost use Rattle.ward.specs.Inner.{Few, vertexSizes, nextSizes};
 
 pub fn equality_at_vertex(point: &[u8], vertex: usize, out: &mut [u8]) -> Verdict
-    ensures { λ r. ⌜ r ≡ vertexAnswer (now (point .entry)) vertex (now (out .entry)) ⌝ }
+    ensures { λ r. ⌜ answer r ≡ vertexAnswer (now (point .entry)) vertex (now (out .entry)) ⌝ }
     ensures { λ _. ⌜ now (out .exit) ≡ vertexOut (now (point .entry)) vertex (now (out .entry)) ⌝ }
 {
     let tested = test_vertex(point, out);
@@ -35,7 +35,7 @@ pub fn equality_at_vertex(point: &[u8], vertex: usize, out: &mut [u8]) -> Verdic
 }
 
 pub fn eval_next(point: &[u8], row: &[u8], out: &mut [u8]) -> Verdict
-    ensures { λ r. ⌜ r ≡ nextAnswer (now (point .entry)) (now (row .entry)) (now (out .entry)) ⌝ }
+    ensures { λ r. ⌜ answer r ≡ nextAnswer (now (point .entry)) (now (row .entry)) (now (out .entry)) ⌝ }
     ensures { λ _. ⌜ now (out .exit) ≡ nextOut (now (point .entry)) (now (row .entry)) (now (out .entry)) ⌝ }
 {
     let tested = test_next(point, row, out);
@@ -56,33 +56,34 @@ pub fn eval_next(point: &[u8], row: &[u8], out: &mut [u8]) -> Verdict
 
 // 1, 3, 4.
 fn test_vertex(point: &[u8], out: &[u8]) -> Verdict
-    ensures { λ r. ⌜ r ≡ verdict (vertexSizes (now (point .entry)) (now (out .entry))) ⌝ }
+    ensures { λ r. ⌜ answer r ≡ verdict (vertexSizes (now (point .entry)) (now (out .entry))) ⌝ }
 {
-    let split = table::either(point.len() % 16 != 0, out.len() % 16 != 0);
     Verdict::Accepted
-        .refuse_if(split, Refusal::Split)
+        .refuse_if(point.len() % 16 != 0, Refusal::Split)
+        .refuse_if(out.len() % 16 != 0, Refusal::Split)
         .refuse_if(table::MOST < point.len() / 4 / 4, Refusal::TooMany)
         .refuse_if(out.len() / 4 / 4 != 1, Refusal::Lengths)
 }
 
 // 1, 3, 4.
 fn test_next(point: &[u8], row: &[u8], out: &[u8]) -> Verdict
-    ensures { λ r. ⌜ r ≡ verdict (nextSizes (now (point .entry)) (now (row .entry)) (now (out .entry))) ⌝ }
+    ensures { λ r. ⌜ answer r ≡ verdict (nextSizes (now (point .entry)) (now (row .entry)) (now (out .entry))) ⌝ }
 {
-    let points = table::either(point.len() % 16 != 0, row.len() % 16 != 0);
-    let split = table::either(points, out.len() % 16 != 0);
     let k = point.len() / 4 / 4;
-    let many = table::either(table::MOST < k, table::MOST < row.len() / 4 / 4);
-    let lengths = table::either(k != row.len() / 4 / 4, out.len() / 4 / 4 != 3);
+    let m = row.len() / 4 / 4;
     Verdict::Accepted
-        .refuse_if(split, Refusal::Split)
-        .refuse_if(many, Refusal::TooMany)
-        .refuse_if(lengths, Refusal::Lengths)
+        .refuse_if(point.len() % 16 != 0, Refusal::Split)
+        .refuse_if(row.len() % 16 != 0, Refusal::Split)
+        .refuse_if(out.len() % 16 != 0, Refusal::Split)
+        .refuse_if(table::MOST < k, Refusal::TooMany)
+        .refuse_if(table::MOST < m, Refusal::TooMany)
+        .refuse_if(k != m, Refusal::Lengths)
+        .refuse_if(out.len() / 4 / 4 != 3, Refusal::Lengths)
 }
 
 fn at_vertex(point: &[u8], vertex: usize) -> Evaluation
     requires { ⌜ Few (now point) ⌝ }
-    ensures { λ r. ⌜ r ≡ vertexOfWords (words (now (point .entry))) vertex ⌝ }
+    ensures { λ r. ⌜ outcome r ≡ vertexOfWords (words (now (point .entry))) vertex ⌝ }
 {
     let n = point.len() / 4;
     let zs = coordinates(point);
@@ -91,7 +92,7 @@ fn at_vertex(point: &[u8], vertex: usize) -> Evaluation
 
 fn next_of(point: &[u8], row: &[u8]) -> Next
     requires { ⌜ Few (now point) × Few (now row) ⌝ }
-    ensures { λ r. ⌜ r ≡ nextOfWords (words (now (point .entry))) (words (now (row .entry))) ⌝ }
+    ensures { λ r. ⌜ nextOutcome r ≡ nextOfWords (words (now (point .entry))) (words (now (row .entry))) ⌝ }
 {
     let n = point.len() / 4;
     let m = row.len() / 4;

@@ -10,7 +10,7 @@ ghost use Rattle.octets.specs.Octets.{words, octets};
 ghost use Rattle.algebra.specs.Words.{unreduced};
 ghost use Rattle.multilinear.specs.declared.Weight.the-variants.{Shifted};
 ghost use Rattle.field.specs.Field.{p, fromWords};
-ghost use Rattle.table.specs.Refusals.{verdict};
+ghost use Rattle.table.specs.Refusals.{answer, verdict};
 ghost use Rattle.split_eq.specs.Split.{bothTables, folded};
 ghost use Rattle.work.specs.Work.{workWords};
 ghost use Rattle.ward.specs.Ward.{foldAnswer, foldWork, foldOut};
@@ -24,7 +24,7 @@ pub fn compress(
     work: &mut [u8],
     out: &mut [u8],
 ) -> Verdict
-    ensures { λ r. ⌜ r ≡ foldAnswer (now (table .entry)) (now (point .entry)) scale (now (work .entry)) (now (out .entry)) ⌝ }
+    ensures { λ r. ⌜ answer r ≡ foldAnswer (now (table .entry)) (now (point .entry)) scale (now (work .entry)) (now (out .entry)) ⌝ }
     ensures { λ _. ⌜ now (work .exit) ≡ foldWork (now (table .entry)) (now (point .entry)) scale (now (work .entry)) (now (out .entry)) ⌝ }
     ensures { λ _. ⌜ now (out .exit) ≡ foldOut side (now (table .entry)) (now (point .entry)) scale (now (work .entry)) (now (out .entry)) ⌝ }
 {
@@ -39,7 +39,7 @@ pub fn compress(
 }
 
 fn test(table: &[u8], point: &[u8], scale: Element, work: &[u8], out: &[u8]) -> Verdict
-    ensures { λ r. ⌜ r ≡ foldAnswer (now (table .entry)) (now (point .entry)) scale (now (work .entry)) (now (out .entry)) ⌝ }
+    ensures { λ r. ⌜ answer r ≡ foldAnswer (now (table .entry)) (now (point .entry)) scale (now (work .entry)) (now (out .entry)) ⌝ }
 {
     let tested = test_sizes(table, point, work, out);
     match tested {
@@ -50,38 +50,36 @@ fn test(table: &[u8], point: &[u8], scale: Element, work: &[u8], out: &[u8]) -> 
 
 // 1, 2, 3.
 fn test_sizes(table: &[u8], point: &[u8], work: &[u8], out: &[u8]) -> Verdict
-    ensures { λ r. ⌜ r ≡ verdict (sizeTests (now (table .entry)) (now (point .entry)) (now (work .entry)) (now (out .entry))) ⌝ }
+    ensures { λ r. ⌜ answer r ≡ verdict (sizeTests (now (table .entry)) (now (point .entry)) (now (work .entry)) (now (out .entry))) ⌝ }
 {
     let count = table.len() / 4;
-    let inputs = table::either(table.len() % 4 != 0, point.len() % 16 != 0);
-    let buffers = table::either(work.len() % 16 != 0, out.len() % 16 != 0);
-    let many = table::either(
-        table::too_many_variables(count),
-        table::MOST < point.len() / 4 / 4,
-    );
     Verdict::Accepted
-        .refuse_if(table::either(inputs, buffers), Refusal::Split)
+        .refuse_if(table.len() % 4 != 0, Refusal::Split)
+        .refuse_if(point.len() % 16 != 0, Refusal::Split)
+        .refuse_if(work.len() % 16 != 0, Refusal::Split)
+        .refuse_if(out.len() % 16 != 0, Refusal::Split)
         .refuse_if(table::not_power(count), Refusal::NotPower)
-        .refuse_if(many, Refusal::TooMany)
+        .refuse_if(table::too_many_variables(count), Refusal::TooMany)
+        .refuse_if(table::MOST < point.len() / 4 / 4, Refusal::TooMany)
 }
 
 // 4, 5.
 fn test_rest(table: &[u8], point: &[u8], scale: Element, work: &[u8], out: &[u8]) -> Verdict
     requires { ⌜ Sized (now table) (now point) (now work) (now out) ⌝ }
-    ensures { λ r. ⌜ r ≡ foldAnswer (now (table .entry)) (now (point .entry)) scale (now (work .entry)) (now (out .entry)) ⌝ }
+    ensures { λ r. ⌜ answer r ≡ foldAnswer (now (table .entry)) (now (point .entry)) scale (now (work .entry)) (now (out .entry)) ⌝ }
 {
     let n = table::variables(table.len() / 4);
     let k = point.len() / 4 / 4;
     let words = scale.c;
     let both = table::rows(k / 2) + table::rows(k - k / 2);
-    let above = table::either(n < k, work.len() / 4 / 4 != both);
     let places = table::rows(table::remaining(n, k));
-    let lengths = table::either(above, out.len() / 4 / 4 != places);
-    let inputs = table::either(is_unreduced(table), is_unreduced(point));
-    let unreduced = table::either(inputs, field::unreduced(&words));
     Verdict::Accepted
-        .refuse_if(lengths, Refusal::Lengths)
-        .refuse_if(unreduced, Refusal::Unreduced)
+        .refuse_if(n < k, Refusal::Lengths)
+        .refuse_if(work.len() / 4 / 4 != both, Refusal::Lengths)
+        .refuse_if(out.len() / 4 / 4 != places, Refusal::Lengths)
+        .refuse_if(is_unreduced(table), Refusal::Unreduced)
+        .refuse_if(is_unreduced(point), Refusal::Unreduced)
+        .refuse_if(field::unreduced(&words), Refusal::Unreduced)
 }
 
 // 5: a word of the bytes is not below p. It reads on after such a word, as `field::unreduced` does.

@@ -1,23 +1,22 @@
 -- What `halves_ext` lends its calls, and what they give. Assumes nothing.
-use mathlib.Core.Path.{_≡_, ap, _∙_}
-use Prim.Native.Nat.{ℕ, _+_, _-_, _*_, _^_, _≤_}
+use mathlib.Core.Path.{_≡_}
+use Prim.Native.Nat.{ℕ, suc, _+_, _-_, _*_, _^_, _≤_}
 use native.Mathlib.Nat.{zero-add}
 use native.Mathlib.Omega.{arith}
 use mathlib.Core.List.{List}
 use lib.ListN.{length, take}
-use lib.Seq.{length-take-le}
 use Rattle.algebra.specs.Ring.{Ops}
 use Rattle.algebra.specs.Sum.{sumTo}
-use Rattle.algebra.proofs.Words.{unreduced-take}
 use Rattle.multilinear.specs.Values.{valueAt}
 use Rattle.multilinear.specs.Beside.{line}
-use Rattle.field.specs.Field.{p, p-pos, field, fromWords, Holds}
+use Rattle.field.specs.Field.{field, fromWords, Holds}
 use Rattle.field.specs.declared.Element.{Element}
-use Rattle.table.specs.Table.{getAt, elementAt, elements}
-use Rattle.table.proofs.Parts.{rest, rest-length, rest-below, rest-get, get-take}
+use Rattle.table.specs.Table.{elementAt, elements}
+use Rattle.table.proofs.Parts.{rest}
 use Rattle.kernel.specs.Kernel.{Pairs}
 use Rattle.weigh.specs.Weigh.{PartsExt, blockSumExt}
-use Rattle.weigh.proofs.Splitting.{few-rows, one-block, twice, fewer, joined}
+use Rattle.weigh.proofs.TableHalves.{half-there-ext, low-whole-ext, high-whole-ext, low-element, high-element}
+use Rattle.weigh.proofs.Splitting.{few-rows, one-block, more, fewer, joined}
 
 module _ {point ws block : List ℕ} {i high low : ℕ} (parts : PartsExt i high low point ws block) where
   module _ (none : high ≡ 0) (rows : ℕ) (e : rows ≡ 2 ^ low) where
@@ -38,20 +37,17 @@ module _ {point ws block : List ℕ} {i high low : ℕ} (parts : PartsExt i high
     paired d = one-block point block i high low (elementAt ws) none (rw e at d)
 
   module _ (left : high ≡ 0 → ⊥) (half : ℕ) (e : half ≡ 2 ^ (high - 1 + low)) where
-    size : length ws ≡ 4 * half + 4 * half
-    size = omega (arith, e, twice point block i high low left, parts .entries-are .count)
+    abbrev one-less : high + low ≡ suc (high - 1 + low)
+    one-less = more point block i high low left
 
     pub half-there : 4 * half ≤ length ws
-    half-there = omega (arith, size)
+    half-there = half-there-ext one-less e (parts .entries-are)
 
     pub low-parts : PartsExt (i + 1) (high - 1) low point (take (4 * half) ws) block
     low-parts =
         record {
           point-is = fewer point block i high low left (parts .point-is);
-          entries-are = record {
-            count = length-take-le (4 * half) ws half-there ∙ ap (λ n. 4 * n) e;
-            below = unreduced-take p p-pos (4 * half) ws (parts .entries-are .below);
-          };
+          entries-are = low-whole-ext one-less e (parts .entries-are);
           small = parts .small;
           room = parts .room;
           below = parts .below;
@@ -59,13 +55,9 @@ module _ {point ws block : List ℕ} {i high low : ℕ} (parts : PartsExt i high
 
     pub high-parts : PartsExt (i + 1) (high - 1) low point (rest half ws) block
     high-parts =
-        let l : length (rest half ws) ≡ length ws - 4 * half = rest-length half ws in
         record {
           point-is = fewer point block i high low left (parts .point-is);
-          entries-are = record {
-            count = omega (arith, e, l, size);
-            below = rest-below half ws (parts .entries-are .below);
-          };
+          entries-are = high-whole-ext one-less e (parts .entries-are);
           small = parts .small;
           room = parts .room;
           below = parts .below;
@@ -79,5 +71,5 @@ module _ {point ws block : List ℕ} {i high low : ℕ} (parts : PartsExt i high
     unfolding blockSumExt
     elements-joined =
         joined point block i high low left (elementAt ws) (elementAt (take (4 * half) ws)) (elementAt (rest half ws))
-        (λ y b. ap fromWords (get-take half y ws (omega (arith, e))))
-        (λ y b. ap fromWords (rest-get half ws y ∙ ap (λ n. getAt ws (n + y)) e))
+        (low-element one-less e (parts .entries-are))
+        (λ y b. high-element one-less e (parts .entries-are) y)

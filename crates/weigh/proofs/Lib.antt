@@ -1,4 +1,7 @@
 pub mod Blocks
+pub mod Halving
+pub mod TableHalves
+pub mod FewVariables
 pub mod Splitting
 pub mod WordParts
 pub mod OneRow

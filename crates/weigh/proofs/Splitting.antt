@@ -1,25 +1,22 @@
 -- The value of a table's sums by blocks, from those of the table's halves down to one block: one argument for words and for elements.
 -- Assumes nothing.
-use mathlib.Core.Path.{_≡_, sym, ap, ap₂, _∙_}
+use mathlib.Core.Path.{_≡_, ap, _∙_}
 use Prim.Native.Nat.{ℕ, suc, _+_, _-_, _*_, _^_, _≤_, _<_}
-use native.Mathlib.Nat.{add-mul, mul-le-mul-right, pos-of-ne-zero, two-pow-succ}
-use native.Mathlib.Numerals.{add-one}
+use native.Mathlib.Nat.{add-mul, mul-le-mul-right}
 use native.Mathlib.Omega.{arith}
-use mathlib.Core.List.{List, _∷_}
-use lib.ListN.{length}
+use mathlib.Core.List.{List}
 use lib.Pow.{pow-add, pow-mono}
 use Rattle.algebra.specs.Ring.{Ops}
 use Rattle.algebra.specs.Sum.{sumTo}
 use Rattle.algebra.proofs.Sums.{sum-ext}
 use Rattle.multilinear.specs.Values.{valueAt}
 use Rattle.multilinear.specs.Beside.{line}
-use Rattle.multilinear.proofs.Values.{value-empty, value-ext, value-step}
 use Rattle.field.specs.Field.{Ext, field, fromWords, Holds}
 use Rattle.field.specs.declared.Element.{Element}
 use Rattle.field.proofs.Laws.{field-ring, read-as}
 use Rattle.table.specs.Table.{elementAt, elements}
-use Rattle.table.proofs.Laws.{elements-length}
 use Rattle.point.specs.Inner.{Coordinates}
+use Rattle.weigh.proofs.Halving.{one-more, twice-half, one-entry, joined as halves-joined}
 
 -- block h of the rows f, summed against the block's table
 abbrev pub against : ℕ → List ℕ → (ℕ → Ext) → ℕ → Ext
@@ -44,60 +41,36 @@ module _ (point block : List ℕ) (i high low : ℕ) where
   pub one-block : (f : ℕ → Ext) → high ≡ 0 → {x : Element}
       → Holds x (sumTo field (2 ^ low) (λ l. field .mul (elementAt block l) (f l)))
       → Holds x (valueAt field (elements point i high) (against low block f))
-  unfolding elements
-  one-block f e d =
-      rw (
-        e,
-        value-empty field-ring (against low block f),
-        sum-ext field-ring (2 ^ low) _ (λ l. field .mul (elementAt block l) (f l)) (λ l b. first l),
-      ) d
+  one-block f e d = one-entry point i (against low block f) e (rw (sum-ext field-ring (2 ^ low) _ _ (λ l b. first l)) d)
     where
       first : (l : ℕ) → field .mul (elementAt block l) (f (0 * 2 ^ low + l)) ≡ field .mul (elementAt block l) (f l)
       first l = ap (λ n. field .mul (elementAt block l) (f n)) (omega arith)
 
   module _ (left : high ≡ 0 → ⊥) where
-    more : suc (high - 1) ≡ high
-    more = let z : 0 < high = pos-of-ne-zero left in omega arith
+    -- the variables are one more than those of a half, and the rows twice those of a half
+    pub more : high + low ≡ suc (high - 1 + low)
+    more = omega (arith, one-more left)
 
-    -- the rows are twice those of a half
     pub twice : 2 ^ (high + low) ≡ 2 ^ (high - 1 + low) + 2 ^ (high - 1 + low)
-    twice = let q : high + low ≡ suc (high - 1 + low) = omega (arith, more) in ap (λ n. 2 ^ n) q ∙ two-pow-succ (high - 1 + low)
+    twice = twice-half more
 
     -- the coordinates of a half
     pub fewer : Coordinates (i + high + low) point → Coordinates (i + 1 + (high - 1) + low) point
-    fewer c = let q : i + 1 + (high - 1) + low ≡ i + high + low = omega (arith, more) in rw q c
+    fewer c = let q : i + 1 + (high - 1) + low ≡ i + high + low = omega (arith, one-more left) in rw q c
 
     abbrev zs : List Ext
     zs = elements point (i + 1) (high - 1)
 
-    coordinates : elements point i high ≡ elementAt point i ∷ zs
-    unfolding elements
-    coordinates = ap (elements point i) (sym more) ∙ ap (λ a. elementAt point i ∷ elements point a (high - 1)) (sym (add-one i))
-
-    below : (h : ℕ) → h < 2 ^ length zs → h < 2 ^ (high - 1)
-    below h b = rw (elements-length point (i + 1) (high - 1)) at b
-
     -- the values of the halves, on the line at the first coordinate
     module _ (f low-half high-half : ℕ → Ext) (e0 : (y : ℕ) → y < 2 ^ (high - 1 + low) → low-half y ≡ f y)
         (e1 : (y : ℕ) → y < 2 ^ (high - 1 + low) → high-half y ≡ f (2 ^ (high - 1 + low) + y)) where
-      at-first : valueAt field (elements point i high) (against low block f)
-          ≡ line field (valueAt field zs (against low block low-half)) (valueAt field zs (against low block high-half)) (elementAt point i)
-      at-first =
-          ap (λ us. valueAt field us (against low block f)) coordinates
-          ∙ value-step field-ring (elementAt point i) zs (against low block f)
-          ∙ ap₂ (λ a b. line field a b (elementAt point i))
-          (value-ext field-ring zs _ _
-          (λ h b. sum-ext field-ring (2 ^ low) _ _ (λ l c. ap (field .mul _) (sym (e0 _ (within (high - 1) low h l (below h b) c))))))
-          (value-ext field-ring zs _ _
-          (λ h b. sum-ext field-ring (2 ^ low) _ _
-          (λ l c. ap (field .mul _)
-          (ap f (moved h l) ∙ sym (e1 _ (within (high - 1) low h l (below h b) c))))))
-        where
-          moved : (h l : ℕ) → (2 ^ length zs + h) * 2 ^ low + l ≡ 2 ^ (high - 1 + low) + (h * 2 ^ low + l)
-          moved h l = rw (elements-length point (i + 1) (high - 1)) (sym (further (high - 1) low h l))
-
       pub joined : {at0 at1 r x : Element} → Holds at0 (valueAt field zs (against low block low-half))
           → Holds at1 (valueAt field zs (against low block high-half)) → Holds r (elementAt point i)
           → Holds x (line field (fromWords at0) (fromWords at1) (fromWords r))
           → Holds x (valueAt field (elements point i high) (against low block f))
-      joined d0 d1 d d-line = rw at-first (rw (read-as _ d0, read-as _ d1, read-as _ d) at d-line)
+      joined d0 d1 d d-line =
+          halves-joined point i (one-more left) (against low block f) (against low block low-half) (against low block high-half)
+          (λ h b. sum-ext field-ring (2 ^ low) _ _ (λ l c. ap (field .mul _) (e0 _ (within (high - 1) low h l b c))))
+          (λ h b. sum-ext field-ring (2 ^ low) _ _
+          (λ l c. ap (field .mul _) (e1 _ (within (high - 1) low h l b c) ∙ ap f (further (high - 1) low h l)))) d0 d1
+          (rw (read-as _ d) at d-line)

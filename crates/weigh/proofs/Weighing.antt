@@ -18,12 +18,8 @@ use Rattle.table.proofs.Laws.{elements-length}
 use Rattle.table.proofs.Parts.{elements-append}
 use Rattle.table.proofs.Placed.{placed-zero}
 use Rattle.point.specs.Inner.{Coordinates}
-use Rattle.weigh.specs.Weigh.{Row, Whole, WholeExt, Block, Parts, PartsExt, blockSum, blockSumExt}
+use Rattle.weigh.specs.Weigh.{Row, WholeExt, Block, Parts, PartsExt, blockSum, blockSumExt}
 use Rattle.weigh.proofs.Splitting.{against}
-
--- words that are all there
-pub row : {k : ℕ} {words : List ℕ} → Whole k words → Row k words
-row w = record { fits = omega (arith, w .count); there = omega (arith, w .count); below = w .below }
 
 module _ {k low : ℕ} (there : low ≤ k) where
   together : k - low + low ≡ k

@@ -1,4 +1,4 @@
--- What the sums against eq take and give. No exported operation's contract cites it. Assumes nothing.
+-- What the sums against eq take and give. No operation that users call cites it. Assumes nothing.
 use mathlib.Core.Path.{_≡_}
 use mathlib.Core.Bool.{false}
 use Prim.Native.Nat.{ℕ, suc, _+_, _*_, _%_, _^_, _≤_, _<_}
@@ -8,8 +8,8 @@ use Rattle.algebra.specs.Ring.{Ops}
 use Rattle.algebra.specs.Sum.{sumTo}
 use Rattle.algebra.specs.Words.{unreduced}
 use Rattle.multilinear.specs.Equality.{eqAt}
-use Rattle.field.specs.Field.{p, Ext, field, base}
-use Rattle.table.specs.Table.{elementAt, elements}
+use Rattle.field.specs.Field.{p, factor, Ext, field, base, Holds}
+use Rattle.table.specs.Table.{getAt, elementAt, elements}
 use Rattle.point.specs.Inner.{Coordinates}
 
 -- a word for each row of k coordinates; the last may be missing
@@ -27,6 +27,16 @@ pub record Whole (k : ℕ) (words : List ℕ) : Type 0 where
 pub record WholeExt (k : ℕ) (ws : List ℕ) : Type 0 where
   pub count : length ws ≡ 4 * 2 ^ k
   pub below : unreduced p ws ≡ false
+
+-- the first n coordinates times X⁴
+pub record Raised (n : ℕ) (point ws : List ℕ) : Type 0 where
+  pub room : 4 * n ≤ length ws
+  pub holds : (j : ℕ) → j < n → Holds (getAt ws j) (field .mul (elementAt point j) (base factor))
+
+-- n coordinates from i on, and the coordinates times X⁴
+pub record Ready (i n : ℕ) (point raised : List ℕ) : Type 0 where
+  pub point-is : Coordinates (i + n) point
+  pub raised-is : Raised (i + n) point raised
 
 -- a block of low variables has room in the words
 pub record Room (low : ℕ) (ws : List ℕ) : Type 0 where

@@ -4,7 +4,10 @@
 //
 //     f(z0, z1, ..) = f(0, z1, ..) + (f(1, z1, ..) - f(0, z1, ..)) z0
 //
-// What is left at the last 8 variables, or fewer, is summed against their table of eq, which is made once.
+// What is left at the last 8 variables, or fewer, is summed against their table of eq, which is made once. The value of a table of 8
+// variables or fewer is made by halves alone.
+mod small;
+
 use field::Element;
 ghost use mathlib.Core.Path.{_≡_};
 ghost use Prim.Native.Nat.{_+_, _^_, _%_, _≤_};
@@ -17,13 +20,39 @@ ghost use Rattle.field.specs.Field.{field, base, fromWords, Reduced, Holds};
 ghost use Rattle.table.specs.Table.{elementAt, elements, placed};
 ghost use Rattle.table.specs.Refusals.{most};
 ghost use Rattle.point.specs.Inner.{Coordinates};
-ghost use Rattle.weigh.specs.Weigh.{Row, WholeExt, Room, Block, Parts, InRow, PartsExt, blockSum, blockSumExt};
+ghost use Rattle.weigh.specs.Weigh.{Row, Whole, WholeExt, Room, Block, Parts, InRow, PartsExt, blockSum, blockSumExt};
 
 // The most variables of a block.
 pub const BLOCK: usize = 8;
 
 // The most variables of a small block.
 pub const SMALL_BLOCK: usize = 2;
+
+// The value of a table of base words.
+pub fn value(words: &[u32], point: &[u32], n: usize) -> Element
+    requires { ⌜ Coordinates n (now point) × Whole n (now words) ⌝ }
+    ensures { λ r. ⌜ Holds r (valueAt field (elements (now (point .entry)) 0 n) (λ y. base (getD (now (words .entry)) y 0))) ⌝ }
+{
+    if n <= BLOCK {
+        let raised = small::raised(point, n);
+        small::halves(words, point, &raised, 0, n)
+    } else {
+        weigh(words, point, n, Element::one())
+    }
+}
+
+// The value of a table of elements.
+pub fn value_ext(entries: &[u32], point: &[u32], n: usize) -> Element
+    requires { ⌜ Coordinates n (now point) × WholeExt n (now entries) ⌝ }
+    ensures { λ r. ⌜ Holds r (valueAt field (elements (now (point .entry)) 0 n) (elementAt (now (entries .entry)))) ⌝ }
+{
+    if n <= BLOCK {
+        let raised = small::raised(point, n);
+        small::halves_ext(entries, point, &raised, 0, n)
+    } else {
+        weigh_ext(entries, point, n, Element::one())
+    }
+}
 
 // scale times the sum of eq[y] words[y] over the rows of k coordinates. The last row's word may be missing, and counts as 0.
 pub fn weigh(words: &[u32], point: &[u32], k: usize, scale: Element) -> Element

@@ -4,12 +4,13 @@ use Prim.Native.Nat.{_-_, _*_, _≤_}
 use native.Mathlib.Omega.{arith}
 use borrow.Author.Needs.{needs}
 use Rattle.table.specs.Inner.{Gained}
-use Rattle.eq_batch.proofs.BlockByBlock.{Cut, pointAt, start, joined, edge, room, turn, finish}
+use Rattle.eq_batch.specs.Inner.{scaledAt}
+use Rattle.eq_batch.proofs.BlockByBlock.{Cut, start, joined, edge, room, turn, finish}
 use Rattle.eq_batch.proofs.add_point.Statement.{statement}
 use Rattle.eq_batch.proofs.add_point.Tie as tie
 
 abbrev Inv-loop : tie.InvT-loop
-Inv-loop point n scale out₀ low high rows h₀ h-end out h = (h ≤ h-end) × Gained 0 (h * rows) (pointAt point n scale) out₀ out
+Inv-loop point n scale out₀ low high rows h₀ h-end out h = (h ≤ h-end) × Gained 0 (h * rows) (scaledAt scale point 0 n) out₀ out
 
 abbrev μ-loop : tie.MeasureT-loop
 μ-loop point n scale out₀ low high rows h₀ h-end out h = h-end - h

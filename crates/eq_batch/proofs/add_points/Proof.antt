@@ -5,7 +5,7 @@ use native.Mathlib.Omega.{arith}
 use borrow.Author.Needs.{needs}
 use Rattle.field.specs.Field.{field}
 use Rattle.multilinear.specs.Beside.{evalBatch}
-use Rattle.table.specs.Table.{elementAt}
+use Rattle.table.specs.Table.{entries, elementAt}
 use Rattle.table.specs.Inner.{Gained}
 use Rattle.eq_batch.specs.Batch.{column}
 use Rattle.eq_batch.proofs.Rooms.{room-gained}
@@ -14,10 +14,11 @@ use Rattle.eq_batch.proofs.add_points.Statement.{statement}
 use Rattle.eq_batch.proofs.add_points.Tie as tie
 
 abbrev Inv-loop : tie.InvT-loop
-Inv-loop n points scalars w out₀ j₀ out j = (j ≤ w) × Gained 0 (2 ^ n) (evalBatch field j (elementAt scalars) (column points n w)) out₀ out
+Inv-loop n points scalars out₀ w j₀ out j =
+    (j ≤ w) × Gained 0 (2 ^ n) (evalBatch field j (elementAt scalars) (column points n w)) out₀ out
 
 abbrev μ-loop : tie.MeasureT-loop
-μ-loop n points scalars w out₀ j₀ out j = w - j
+μ-loop n points scalars out₀ w j₀ out j = w - j
 
 loop-holds : tie.Need-loop-holds Inv-loop μ-loop
 loop-holds c = (omega arith, start _ _ _ _ (c .before .before .before .pre .1))
@@ -34,7 +35,7 @@ gather-requires c κs =
 read-requires : tie.Need-read-requires Inv-loop μ-loop
 read-requires c κs =
     let test = c .before .before in
-    (omega (arith, begin test .pre .0 .scales), begin test .pre .0 .scalars-below)
+    (omega arith, begin test .pre .0 .scalars-below)
 
 add-point-requires : tie.Need-add-point-requires Inv-loop μ-loop
 add-point-requires c κs =
@@ -60,7 +61,7 @@ loop-again c =
 returns : tie.Need-returns Inv-loop μ-loop
 returns c =
     let at = c .before in
-    let q : at .loop .j ≡ at .before .before .before .before .args .w = omega arith in
+    let q : at .loop .j ≡ entries (at .before .before .before .before .args .scalars .now) = omega arith in
     rw q at (at .loop .inv .1)
 
 pub add-points-spec : {M : Type 1} → statement M

@@ -6,32 +6,33 @@ use Rattle.eq_batch.proofs.test_batch.Tie as tie
 
 returns : tie.Need-returns
 returns c =
-    let adding = c .before .before .before .before in
-    let reduced = adding .before .before .before in
-    let counted = reduced .before .before .before in
-    let few = counted .before .before .before in
-    let whole = few .before in
-    gone-through _
+    let added = c .before .before .before in
+    let below = added .before .before in
+    let rows = below .before .before in
+    let counts = rows .before .before in
+    let few = counts .before .before in
+    let whole = few .before .before in
+    gone-through _ tt
     (rw (
-      c .refuse-if4 .ensures,
-      c .before .refuse-if3 .ensures,
-      c .before .before .refuse-if2 .ensures,
-      c .before .before .before .refuse-if .ensures,
-      adding .either6 .ensures,
-      adding .before .both .ensures,
-      adding .before .before .unreduced3 .ensures,
-      reduced .either5 .ensures,
-      reduced .before .unreduced2 .ensures,
-      reduced .before .before .unreduced .ensures,
-      counted .either4 .ensures,
-      counted .before .rows-differ .ensures,
-      counted .before .before .is-no-product .ensures,
-      few .either3 .ensures,
-      whole .either2 .ensures,
+      c .refuse-if10 .ensures,
+      c .before .both .ensures,
+      c .before .before .unreduced3 .ensures,
+      added .refuse-if9 .ensures,
+      added .before .unreduced2 .ensures,
+      below .refuse-if8 .ensures,
+      below .before .unreduced .ensures,
+      rows .refuse-if7 .ensures,
+      rows .before .rows-differ .ensures,
+      counts .refuse-if6 .ensures,
+      counts .before .is-no-product .ensures,
+      few .refuse-if5 .ensures,
+      few .before .refuse-if4 .ensures,
+      whole .refuse-if3 .ensures,
       whole .before .splits3 .ensures,
-      whole .before .before .either .ensures,
+      whole .before .before .refuse-if2 .ensures,
       whole .before .before .before .splits2 .ensures,
-      whole .before .before .before .before .splits .ensures,
+      whole .before .before .before .before .refuse-if .ensures,
+      whole .before .before .before .before .before .splits .ensures,
     ))
 
 pub test-batch-spec : {M : Type 1} → statement M

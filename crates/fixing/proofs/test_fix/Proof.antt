@@ -6,24 +6,24 @@ use Rattle.fixing.proofs.test_fix.Tie as tie
 
 returns : tie.Need-returns
 returns c =
-    let reduced = c .before in
-    let few = reduced .before in
+    let below = c .before in
+    let reduced = below .before .before .before in
+    let few = reduced .before .before in
     let power = few .before .before in
     let whole = power .before .before in
-    let either = whole .before .before in
-    gone-through _
+    gone-through _ tt
     (rw (
-      c .refuse-if5 .ensures,
+      c .refuse-if6 .ensures,
+      below .refuse-if5 .ensures,
+      below .before .unreduced2 .ensures,
       reduced .refuse-if4 .ensures,
+      reduced .before .unreduced .ensures,
       few .refuse-if3 .ensures,
       few .before .too-many-variables .ensures,
       power .refuse-if2 .ensures,
       power .before .not-power .ensures,
       whole .refuse-if .ensures,
       whole .before .splits .ensures,
-      either .either .ensures,
-      either .before .unreduced2 .ensures,
-      either .before .before .before .unreduced .ensures,
     ))
 
 pub test-fix-spec : {M : Type 1} → statement M
@@ -31,14 +31,14 @@ test-fix-spec =
     tie.close
     (tie.spec
     (search needs)
+    (search needs)
+    (search needs)
+    (search needs)
+    (search needs)
+    (search needs)
+    (search needs)
+    (search needs)
     (λ c. search needs)
-    (search needs)
-    (search needs)
-    (search needs)
-    (search needs)
-    (search needs)
-    (search needs)
-    (search needs)
     (search needs)
     (search needs)
     (search needs)

@@ -8,7 +8,7 @@ returns : tie.Need-returns
 returns c =
     let power = c .before .before in
     let whole = power .before .before in
-    gone-through _
+    gone-through _ tt
     (rw (
       c .refuse-if3 .ensures,
       c .before .too-many-variables .ensures,

@@ -16,7 +16,7 @@ returns : tie.Need-returns
 returns c =
     let stepped = c .before .before in
     let read = stepped .before .before .before .before in
-    alike _ _ _ (read .spelled .ensures .1) (stepped .step-bytes .ensures)
+    alike _ _ _ (stepped .step-bytes .result) (read .spelled .ensures .1) (stepped .step-bytes .ensures)
 
 pub step-spec : {M : Type 1} → statement M
 step-spec =

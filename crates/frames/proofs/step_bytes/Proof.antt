@@ -1,6 +1,7 @@
 -- `frames::step_bytes` meets its contract: by the line's answer. Assumes nothing.
-use mathlib.Core.Path.{sym, _∙_}
+use mathlib.Core.Path.{sym}
 use borrow.Author.Needs.{needs}
+use Rattle.table.proofs.Answers.{answer-as}
 use Rattle.frames.proofs.Keeping.{limits}
 use Rattle.frames.proofs.Turns.{refused, accepted}
 use Rattle.frames.proofs.step_bytes.Statement.{statement}
@@ -13,7 +14,7 @@ take-requires c κs =
     record {
       ready = tested .before .before .before .before .pre;
       kind-is = tested .before .kind-of .ensures;
-      accepted = sym (tested .test-line .ensures) ∙ told .enum-told .given .1;
+      accepted = sym (answer-as (told .enum-told .given .1) (tested .test-line .ensures));
     }
 
 returns : tie.Need-returns

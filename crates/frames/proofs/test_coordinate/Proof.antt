@@ -8,7 +8,7 @@ use Rattle.frames.proofs.test_coordinate.Tie as tie
 
 returns : tie.Need-returns
 returns c =
-    gone-through _
+    gone-through _ tt
     (rw (c .refuse-if .ensures, c .before .unreduced .ensures, c .before .before .before .before .element .ensures))
 
 pub test-coordinate-spec : {M : Type 1} → statement M

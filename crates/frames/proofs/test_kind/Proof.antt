@@ -18,7 +18,7 @@ returns-3 c = rw (c .before .enum-told3 .given .1) (c .test-words .ensures)
 returns-4 : tie.Need-returns-4
 returns-4 c =
     rw (c .before .before .enum-told4 .given .1)
-    (gone-through _ (rw (c .refuse-if .ensures, c .before .lacks-coordinates .ensures)))
+    (gone-through _ tt (rw (c .refuse-if .ensures, c .before .lacks-coordinates .ensures)))
 
 returns-5 : tie.Need-returns-5
 unfolding verdict

@@ -1,25 +1,22 @@
 -- `frames::test_line` meets its contract: the tests that every line shares, and the kind's own. Assumes nothing.
 use mathlib.Core.Path.{_≡_}
-use mathlib.Core.Bool.{not}
 use borrow.Author.Needs.{needs}
-use Rattle.table.specs.Inner.{refuseIf}
-use Rattle.table.specs.declared.Refusal.the-variants.{Closed, NotFrame}
-use Rattle.table.specs.declared.Verdict.the-variants.{Accepted}
-use Rattle.frames.specs.Reader.{isDone, inPlace}
-use Rattle.frames.proofs.Answers.{refused, passed}
+use Rattle.table.specs.Refusals.{answer, verdict}
+use Rattle.table.proofs.Verdicts.{gone-through}
+use Rattle.frames.proofs.Answers.{sharedTests, refused, passed}
 use Rattle.frames.proofs.test_line.Statement.{statement}
 use Rattle.frames.proofs.test_line.Tie as tie
 
 shared : (c : tie.After-refuse-if2) → let a = c .before .before .before .before .before .args in
-    c .refuse-if2 .result
-    ≡ refuseIf (refuseIf Accepted (isDone (a .reader .phase)) Closed) (not (inPlace (a .reader .phase) (a .kind))) NotFrame
+    answer (c .refuse-if2 .result) ≡ verdict (sharedTests (a .reader) (a .kind))
 shared c =
-    rw (
+    gone-through _ tt
+    (rw (
       c .refuse-if2 .ensures,
       c .before .before .refuse-if .ensures,
       c .before .is-misplaced .ensures,
       c .before .before .before .is-done .ensures,
-    )
+    ))
 
 returns : tie.Need-returns
 returns c =

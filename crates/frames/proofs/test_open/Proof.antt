@@ -8,19 +8,19 @@ use Rattle.frames.proofs.test_open.Tie as tie
 
 returns : tie.Need-returns
 returns c =
-    let third = c .before .before in
-    let second = third .before .before .before in
-    let either = second .before .before in
-    let element = either .before .before in
-    gone-through _
+    let below = c .before .before in
+    let fitting = below .before .before .before in
+    let second = fitting .before in
+    let element = second .before .before .before in
+    gone-through _ tt
     (rw (
-      c .refuse-if4 .ensures,
-      third .refuse-if3 .ensures,
+      c .refuse-if5 .ensures,
+      c .before .remaining .ensures,
+      below .refuse-if4 .ensures,
+      below .before .unreduced .ensures,
+      fitting .refuse-if3 .ensures,
       second .refuse-if2 .ensures,
       second .before .refuse-if .ensures,
-      c .before .remaining .ensures,
-      third .before .unreduced .ensures,
-      either .either .ensures,
       element .element .ensures,
       element .before .number2 .ensures .0,
       element .before .before .number .ensures .0,

@@ -24,7 +24,7 @@ returns c =
     let words = rows .before in
     let start = words .before .before .before in
     let bs = start .args .bytes .now in
-    gone-through _
+    gone-through _ tt
     (rw (
       c .refuse-if3 .ensures,
       c .before .refuse-if2 .ensures,

@@ -1,12 +1,12 @@
 -- `poly::new_next_from_point` meets its contract: by the tests' answer. Assumes nothing.
-use mathlib.Core.Path.{_≡_, refl, sym, _∙_}
+use mathlib.Core.Path.{_≡_, refl}
 use borrow.Author.Needs.{needs}
-use Rattle.table.specs.declared.Verdict.the-variants.{Accepted}
 use Rattle.table.proofs.Laws.{elements-length}
 use Rattle.point.specs.Point.{tableAnswer}
 use Rattle.point.proofs.Coordinates.{table-accepted, fits}
 use Rattle.poly.proofs.Next.{weights, next-table}
 use Rattle.poly.proofs.Outcomes.{next}
+use Rattle.table.proofs.Answers.{answer-as}
 use Rattle.poly.proofs.new_next_from_point.Statement.{statement}
 use Rattle.poly.proofs.new_next_from_point.Tie as tie
 
@@ -14,8 +14,8 @@ module _ (told : tie.After-enum-told) where
   abbrev begin : tie.Start
   begin = told .before .before .before .before .before .before
 
-  accepted : Accepted ≡ tableAnswer (begin .args .point .now) (begin .args .out .now)
-  accepted = sym (told .enum-told .given .1) ∙ told .before .before .test-table .ensures
+  accepted : 0 ≡ tableAnswer (begin .args .point .now) (begin .args .out .now)
+  accepted = answer-as (told .enum-told .given .1) (told .before .before .test-table .ensures)
 
 fill-requires : tie.Need-fill-requires
 fill-requires c κs = fits _ _ (accepted (c .before .before)) (c .one .ensures .below)
@@ -27,7 +27,7 @@ succeed-requires : tie.Need-succeed-requires
 succeed-requires c κs = weights _ _ _ (c .rows .ensures) (c .before .before .before .before .fill .ensures)
 
 returns : tie.Need-returns
-returns c = next _ _ (sym (c .before .tested .given .1) ∙ c .before .before .before .test-table .ensures) refl
+returns c = next _ _ (c .before .tested .given .1) (c .before .before .before .test-table .ensures) refl
 
 returns-2 : tie.Need-returns-2
 returns-2 c =
@@ -35,7 +35,8 @@ returns-2 c =
     let rows = succeed .before in
     let fill = rows .before .before .before .before in
     let one = fill .before in
-    next _ _ (accepted (one .before .before))
+    let told = one .before .before in
+    next _ _ (told .enum-told .given .1) (told .before .before .test-table .ensures)
     (next-table _ _ _ _ _ (elements-length _ _ _) (one .one .ensures) (fill .fill .ensures) (rows .rows .ensures)
     (succeed .succeed .ensures))
 

@@ -8,26 +8,25 @@ use Rattle.poly.proofs.test_scaled.Tie as tie
 returns : tie.Need-returns
 unfolding newAnswer
 returns c =
-    let counted = c .before in
+    let below = c .before .before .before in
+    let counted = below .before .before in
     let few = counted .before .before in
-    let whole = few .before .before in
-    let below = whole .before in
-    let scanned = below .before .before .before in
-    let split = scanned .before .before in
-    gone-through _
+    let out = few .before .before in
+    let point = out .before .before in
+    gone-through _ tt
     (rw (
-      c .refuse-if4 .ensures,
-      counted .refuse-if3 .ensures,
+      c .refuse-if6 .ensures,
+      c .before .unreduced2 .ensures,
+      below .refuse-if5 .ensures,
+      below .before .unreduced .ensures,
+      counted .refuse-if4 .ensures,
       counted .before .rows-differ .ensures,
-      few .refuse-if2 .ensures,
+      few .refuse-if3 .ensures,
       few .before .too-many .ensures,
-      whole .refuse-if .ensures,
-      below .either2 .ensures,
-      below .before .unreduced2 .ensures,
-      scanned .unreduced .ensures,
-      split .either .ensures,
-      split .before .splits2 .ensures,
-      split .before .before .splits .ensures,
+      out .refuse-if2 .ensures,
+      out .before .splits2 .ensures,
+      point .refuse-if .ensures,
+      point .before .splits .ensures,
     ))
 
 pub test-scaled-spec : {M : Type 1} → statement M
@@ -38,13 +37,13 @@ test-scaled-spec =
     (search needs)
     (search needs)
     (search needs)
+    (search needs)
+    (search needs)
+    (search needs)
+    (search needs)
+    (search needs)
+    (search needs)
     (λ c. search needs)
-    (search needs)
-    (search needs)
-    (search needs)
-    (search needs)
-    (search needs)
-    (search needs)
     (search needs)
     (search needs)
     returns)

@@ -1,5 +1,5 @@
 -- `session::close` meets its contract: by the tests' answer. Assumes nothing.
-use mathlib.Core.Path.{refl, sym, _∙_}
+use mathlib.Core.Path.{refl}
 use borrow.Author.Needs.{needs}
 use Rattle.session.specs.Session.{state, closeLeaves}
 use Rattle.session.proofs.Outcomes.{settles}
@@ -10,14 +10,14 @@ returns : tie.Need-returns
 unfolding closeLeaves
 returns c =
     let tested = c .before in
-    settles (state _ _) (state _ _) (sym (tested .tested .given .1) ∙ tested .before .before .test-close .ensures) refl refl .0
+    settles (state _ _) (state _ _) (tested .tested .given .1) (tested .before .before .test-close .ensures) refl refl
 
 returns-2 : tie.Need-returns-2
 unfolding closeLeaves
 returns-2 c =
     let told = c .before in
-    settles (state _ _) (state _ _) (sym (told .enum-told .given .1) ∙ told .before .before .test-close .ensures)
-    (c .mark .ensures) refl .0
+    settles (state _ _) (state _ _) (told .enum-told .given .1) (told .before .before .test-close .ensures)
+    (c .mark .ensures) refl
 
 pub close-spec : {M : Type 1} → statement M
 close-spec = tie.close (tie.spec (search needs) (λ c. search needs) (λ c. search needs) (search needs) returns returns-2)

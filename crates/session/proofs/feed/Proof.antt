@@ -1,9 +1,9 @@
 -- `session::feed` meets its contract: by the tests' answer. Assumes nothing.
-use mathlib.Core.Path.{_≡_, refl, sym, _∙_}
-use Prim.Native.Nat.{_*_, _≤_}
+use mathlib.Core.Path.{_≡_, refl, sym}
 use native.Mathlib.Omega.{arith}
 use borrow.Author.Needs.{needs}
 use lib.ListN.{length}
+use Rattle.table.proofs.Answers.{answer-as}
 use Rattle.session.specs.Session.{state, feedLeaves}
 use Rattle.session.proofs.Accepted.{Fed, fed, few-taken}
 use Rattle.session.proofs.Outcomes.{settles}
@@ -14,7 +14,7 @@ accepted : (c : tie.After-enum-told) → let a = c .before .before .before .befo
     Fed (a .s) (a .piece .now) (a .out .now)
 accepted c =
     let a = c .before .before .before .before .before .before .args in
-    fed (state (a .s) (a .out .now)) (a .piece .now) (sym (c .enum-told .given .1) ∙ c .before .before .test-feed .ensures)
+    fed (state (a .s) (a .out .now)) (a .piece .now) (answer-as (c .enum-told .given .1) (c .before .before .test-feed .ensures))
 
 count : tie.Need-slice-aggregate-add
 count c = search needs
@@ -45,15 +45,14 @@ add-mark c = omega (arith, few-taken (accepted (c .before .before .before .befor
 
 returns : tie.Need-returns
 unfolding feedLeaves
-returns c =
-    settles (state _ _) (state _ _) (sym (c .before .tested .given .1) ∙ c .before .before .before .test-feed .ensures) refl refl
+returns c = settles (state _ _) (state _ _) (c .before .tested .given .1) (c .before .before .before .test-feed .ensures) refl refl
 
 returns-2 : tie.Need-returns-2
 unfolding feedLeaves
 returns-2 c =
     let added = c .before .before .before .before in
     let told = added .before .before .before .before .before in
-    settles (state _ _) (state _ _) (sym (told .enum-told .given .1) ∙ told .before .before .test-feed .ensures)
+    settles (state _ _) (state _ _) (told .enum-told .given .1) (told .before .before .test-feed .ensures)
     (c .mark .ensures) (added .add .ensures)
 
 pub feed-spec : {M : Type 1} → statement M

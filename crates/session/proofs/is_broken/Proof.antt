@@ -1,7 +1,7 @@
 -- `session::is_broken` meets its contract. Assumes nothing.
 use borrow.Author.Needs.{needs}
 use borrow.Author.Tests.{lt-ltb, le-ltb}
-use Rattle.session.specs.Session.{broken}
+use Rattle.session.specs.Inner.{broken}
 use Rattle.session.proofs.is_broken.Statement.{statement}
 use Rattle.session.proofs.is_broken.Tie as tie
 

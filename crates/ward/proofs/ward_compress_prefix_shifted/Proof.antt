@@ -1,14 +1,13 @@
--- `ward::ward_compress_prefix_shifted` meets its contract: the verdict as a number. Assumes nothing.
-use mathlib.Core.Path.{ap, _∙_}
+-- `ward::ward_compress_prefix_shifted` meets its contract: the verdict's number. Assumes nothing.
+use mathlib.Core.Path.{_∙_}
 use borrow.Author.Needs.{needs}
-use Rattle.table.specs.Refusals.{answer}
 use Rattle.ward.proofs.ward_compress_prefix_shifted.Statement.{statement}
 use Rattle.ward.proofs.ward_compress_prefix_shifted.Tie as tie
 
 returns : tie.Need-returns
 returns c =
     let called = c .before .before .before .before .before in
-    (c .answer .ensures ∙ ap answer (called .compress .ensures .0), called .compress .ensures .1)
+    (c .answer .ensures ∙ called .compress .ensures .0, called .compress .ensures .1)
 
 pub ward-compress-prefix-shifted-spec : {M : Type 1} → statement M
 ward-compress-prefix-shifted-spec =

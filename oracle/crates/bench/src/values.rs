@@ -40,11 +40,17 @@ const FIXING: [(&str, Fix, RustFix, Option<FixByHand>); 4] = [
     ),
 ];
 
+/// The most variables of a table whose value is computed by halves down to its entries.
+const HALVES: usize = 8;
+
 pub fn run(bench: &mut Bench, input: &Input) {
+    for n in [HALVES, MOST] {
+        let k = || format!("k = {n}");
+        bench.case("Poly::eval_base", n, k(), || eval_base(input, n));
+        bench.case("Poly::eval_ext", n, k(), || eval_ext(input, n));
+    }
     let n = MOST;
     let k = || format!("k = {n}");
-    bench.case("Poly::eval_base", n, k(), || eval_base(input, n));
-    bench.case("Poly::eval_ext", n, k(), || eval_ext(input, n));
     bench.case("Poly::eval_next_base", n, k(), || eval_next_base(input, n));
     for (name, ours, rust, by_hand) in FIXING {
         bench.case(name, n, String::new(), || {
@@ -57,21 +63,27 @@ pub fn run(bench: &mut Bench, input: &Input) {
 
 pub fn eval_base(input: &Input, n: usize) -> Vec<Side<'_>> {
     let (words, coordinates, point) = (input.words(n), input.coordinates(n), input.point(n));
-    vec![
+    let mut sides = vec![
         Side::given(Rust, move || input.table(n).eval_base(&point)),
         Side::lent(Ours, 4, |out| host::poly_eval_base(words, coordinates, out)),
-        Side::lent(C, 4, |out| reference::eval_base(words, coordinates, out)),
-    ]
+    ];
+    if HALVES < n {
+        sides.push(Side::lent(C, 4, |out| reference::eval_base(words, coordinates, out)));
+    }
+    sides
 }
 
 fn eval_ext(input: &Input, n: usize) -> Vec<Side<'_>> {
     let (words, coordinates, point) = (input.entries(n), input.coordinates(n), input.point(n));
     let table = Poly::new(elements(words));
-    vec![
+    let mut sides = vec![
         Side::given(Rust, move || table.eval_ext::<Base>(&point)),
         Side::lent(Ours, 4, |out| host::poly_eval_ext(words, coordinates, out)),
-        Side::lent(C, 4, |out| reference::eval_ext(words, coordinates, out)),
-    ]
+    ];
+    if HALVES < n {
+        sides.push(Side::lent(C, 4, |out| reference::eval_ext(words, coordinates, out)));
+    }
+    sides
 }
 
 fn eval_next_base(input: &Input, n: usize) -> Vec<Side<'_>> {

@@ -1,23 +1,15 @@
 -- `host::elements::apply` meets its contract. Assumes nothing.
-use mathlib.Core.Path.{_≡_, sym, _∙_}
 use native.Mathlib.Omega.{arith}
 use borrow.Author.Needs.{needs}
-use Rattle.table.specs.Refusals.{verdict}
-use Rattle.table.specs.declared.Verdict.the-variants.{Accepted}
-use Rattle.host.specs.Elements.{elementTests}
-use Rattle.host.proofs.Outcomes.{Ready, ready, done, refused}
+use Rattle.host.proofs.Applying.{Ready, ready, done, refused}
 use Rattle.host.proofs.elements.apply.Statement.{statement}
 use Rattle.host.proofs.elements.apply.Tie as tie
 
 abbrev start : tie.After-enum-told2 → tie.Start
 start s = s .before .before .before .before .before .before .before
 
--- the call was accepted
-passed : (s : tie.After-enum-told2) → Accepted ≡ verdict (elementTests (start s .args .x .now) (start s .args .y .now) (start s .args .out .now))
-passed s = sym (s .enum-told2 .given .1) ∙ s .before .before .test .ensures
-
 fit : (s : tie.After-enum-told2) → Ready (start s .args .x .now) (start s .args .y .now) (start s .args .out .now)
-fit s = ready _ _ (start s .args .out .now) (passed s)
+fit s = ready _ _ _ (s .enum-told2 .given .1) (s .before .before .test .ensures)
 
 get-requires : tie.Need-get-requires
 get-requires c κs = omega (arith, fit c .x-four)
@@ -36,13 +28,14 @@ put-requires c κs = omega (arith, fit (c .before .before .before .before) .out-
 returns : tie.Need-returns
 returns c =
     let told = c .before in
-    refused _ _ _ _ _ _ (told .enum-told .given .1) (told .before .before .test .ensures) (c .answer .ensures)
+    refused _ _ _ _ (told .enum-told .given .1) (told .before .before .test .ensures) (c .answer .ensures)
 
 returns-2 : tie.Need-returns-2
 returns-2 c =
     let put = c .before .before in
     let e = put .before .before in
-    done _ _ _ _ _ (passed (e .before .before .before))
+    let told = e .before .before .before in
+    done _ _ _ _ _ (told .enum-told2 .given .1) (told .before .before .test .ensures)
     (rw (e .before .before .get .ensures, e .before .get2 .ensures) at (e .element .ensures)) (put .put .ensures)
 
 pub apply-spec : {M : Type 1} → statement M

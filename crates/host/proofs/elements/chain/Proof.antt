@@ -3,7 +3,6 @@ use mathlib.Core.Path.{_≡_}
 use Prim.Native.Nat.{_-_}
 use native.Mathlib.Omega.{arith}
 use borrow.Author.Needs.{needs}
-use Rattle.multilinear.specs.Beside.{power}
 use Rattle.host.proofs.Chaining.{Chaining, start, turn}
 use Rattle.host.proofs.elements.chain.Statement.{statement}
 use Rattle.host.proofs.elements.chain.Tie as tie

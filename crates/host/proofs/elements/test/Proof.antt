@@ -1,22 +1,24 @@
--- `host::elements::test` meets its contract: the tests one by one give the verdict of their list. Assumes nothing.
+-- `host::elements::test` meets its contract: the tests one by one. Assumes nothing.
 use borrow.Author.Needs.{needs}
 use Rattle.table.proofs.Verdicts.{gone-through}
+use Rattle.host.specs.Elements.{elementAnswer}
 use Rattle.host.proofs.elements.test.Statement.{statement}
 use Rattle.host.proofs.elements.test.Tie as tie
 
 returns : tie.Need-returns
+unfolding elementAnswer
 returns c =
-    let tested = c .before .before in
-    let scanned = tested .before .before in
-    gone-through _
+    let below = c .before .before in
+    let lengths = below .before .before in
+    gone-through _ tt
     (rw (
-      c .refuse-if2 .ensures,
-      c .before .refuse-if .ensures,
-      tested .either3 .ensures,
-      tested .before .unreduced2 .ensures,
-      scanned .unreduced .ensures,
-      scanned .before .either2 .ensures,
-      scanned .before .before .either .ensures,
+      c .refuse-if5 .ensures,
+      c .before .unreduced2 .ensures,
+      below .refuse-if4 .ensures,
+      below .before .unreduced .ensures,
+      lengths .refuse-if3 .ensures,
+      lengths .before .refuse-if2 .ensures,
+      lengths .before .before .refuse-if .ensures,
     ))
 
 pub test-spec : {M : Type 1} → statement M

@@ -1,12 +1,14 @@
 -- `host::fixed::give_count` meets its contract, by the case of the answer. Assumes nothing.
-use mathlib.Core.Path.{_≡_, refl}
+use mathlib.Core.Path.{refl, sym}
+use mathlib.Core.List.{[]}
 use borrow.Author.Needs.{needs}
-use Rattle.host.proofs.Fitting.{set-only}
+use Rattle.table.proofs.Answers.{kept}
+use Rattle.host.proofs.Counting.{set-only}
 use Rattle.host.proofs.fixed.give_count.Statement.{statement}
 use Rattle.host.proofs.fixed.give_count.Tie as tie
 
 returns : tie.Need-returns
-returns c = rw (c .before .before .remaining .given .1) (c .number .ensures, refl)
+returns c = rw (c .before .before .remaining .given .1) (c .number .ensures, sym (kept [] _ (c .before .before .remaining .given .0 .0)))
 
 returns-2 : tie.Need-returns-2
 returns-2 c =

@@ -1,25 +1,25 @@
 -- `point::equality::equality_at_vertex` meets its contract: by the tests' answer. Assumes nothing.
-use mathlib.Core.Path.{sym, _∙_}
 use borrow.Author.Needs.{needs}
 use Rattle.point.specs.Point.{vertexAnswer}
 use Rattle.point.proofs.Coordinates.{vertex-accepted}
 use Rattle.table.proofs.Outcomes.{refused-as, evaluated-as}
+use Rattle.table.proofs.Answers.{answer-as}
 use Rattle.point.proofs.equality.equality_at_vertex.Statement.{statement}
 use Rattle.point.proofs.equality.equality_at_vertex.Tie as tie
 
 at-row-requires : tie.Need-at-row-requires
-at-row-requires c κs = vertex-accepted _ _ (sym (c .enum-told .given .1) ∙ c .before .before .test-vertex .ensures)
+at-row-requires c κs = vertex-accepted _ _ (answer-as (c .enum-told .given .1) (c .before .before .test-vertex .ensures))
 
 returns : tie.Need-returns
 unfolding vertexAnswer
-returns c = refused-as _ (sym (c .before .tested .given .1) ∙ c .before .before .before .test-vertex .ensures)
+returns c = refused-as _ (c .before .tested .given .1) (c .before .before .before .test-vertex .ensures)
 
 returns-2 : tie.Need-returns-2
 unfolding vertexAnswer
 returns-2 c =
     let row = c .before in
     let told = row .before in
-    evaluated-as _ _ (sym (told .enum-told .given .1) ∙ told .before .before .test-vertex .ensures) (row .at-row .ensures)
+    evaluated-as _ _ (told .enum-told .given .1) (told .before .before .test-vertex .ensures) (row .at-row .ensures)
     (c .value .ensures)
 
 pub equality-at-vertex-spec : {M : Type 1} → statement M

@@ -10,19 +10,20 @@ unfolding tableAnswer
 returns c =
     let counted = c .before .before in
     let few = counted .before .before in
-    let whole = few .before .before in
-    gone-through _
+    let out = few .before .before in
+    let point = out .before .before in
+    gone-through _ tt
     (rw (
-      c .refuse-if4 .ensures,
+      c .refuse-if5 .ensures,
       c .before .unreduced .ensures,
-      counted .refuse-if3 .ensures,
+      counted .refuse-if4 .ensures,
       counted .before .rows-differ .ensures,
-      few .refuse-if2 .ensures,
+      few .refuse-if3 .ensures,
       few .before .too-many .ensures,
-      whole .refuse-if .ensures,
-      whole .before .either .ensures,
-      whole .before .before .splits2 .ensures,
-      whole .before .before .before .splits .ensures,
+      out .refuse-if2 .ensures,
+      out .before .splits2 .ensures,
+      point .refuse-if .ensures,
+      point .before .splits .ensures,
     ))
 
 pub test-table-spec : {M : Type 1} → statement M

@@ -6,19 +6,19 @@ use Rattle.point.proofs.equality.test_vertex.Tie as tie
 
 returns : tie.Need-returns
 returns c =
-    let reduced = c .before in
+    let reduced = c .before .before in
     let few = reduced .before .before in
     let whole = few .before .before in
-    gone-through _
+    gone-through _ tt
     (rw (
       c .refuse-if4 .ensures,
+      c .before .is-beyond .ensures,
       reduced .refuse-if3 .ensures,
       reduced .before .unreduced .ensures,
       few .refuse-if2 .ensures,
       few .before .too-many .ensures,
       whole .refuse-if .ensures,
       whole .before .splits .ensures,
-      whole .before .before .is-beyond .ensures,
     ))
 
 pub test-vertex-spec : {M : Type 1} → statement M

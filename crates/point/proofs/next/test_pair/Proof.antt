@@ -6,27 +6,28 @@ use Rattle.point.proofs.next.test_pair.Tie as tie
 
 returns : tie.Need-returns
 returns c =
-    let lengths = c .before .before in
-    let refused = lengths .before in
-    let unreduced = refused .before .before in
-    let many = unreduced .before .before .before in
-    let split = many .before .before .before in
-    gone-through _
+    let below = c .before .before in
+    let lengths = below .before .before in
+    let many = lengths .before .before in
+    let few = many .before .before in
+    let split = few .before .before in
+    let whole = split .before .before in
+    gone-through _ tt
     (rw (
-      c .refuse-if4 .ensures,
-      c .before .refuse-if3 .ensures,
-      lengths .lengths-differ .ensures,
-      refused .refuse-if2 .ensures,
-      refused .before .refuse-if .ensures,
-      unreduced .either3 .ensures,
-      unreduced .before .unreduced2 .ensures,
-      unreduced .before .before .unreduced .ensures,
-      many .either2 .ensures,
+      c .refuse-if7 .ensures,
+      c .before .unreduced2 .ensures,
+      below .refuse-if6 .ensures,
+      below .before .unreduced .ensures,
+      lengths .refuse-if5 .ensures,
+      lengths .before .lengths-differ .ensures,
+      many .refuse-if4 .ensures,
       many .before .too-many2 .ensures,
-      many .before .before .too-many .ensures,
-      split .either .ensures,
+      few .refuse-if3 .ensures,
+      few .before .too-many .ensures,
+      split .refuse-if2 .ensures,
       split .before .splits2 .ensures,
-      split .before .before .splits .ensures,
+      whole .refuse-if .ensures,
+      whole .before .splits .ensures,
     ))
 
 pub test-pair-spec : {M : Type 1} → statement M

@@ -1,24 +1,24 @@
 -- `point::select::eval_select` meets its contract: by the tests' verdict. Assumes nothing.
-use mathlib.Core.Path.{sym, _∙_}
 use borrow.Author.Needs.{needs}
 use Rattle.point.specs.Point.{evalSelectAnswer}
 use Rattle.table.proofs.Outcomes.{refused-as, evaluated-as}
 use Rattle.point.proofs.PairOutcomes.{select-tested}
+use Rattle.table.proofs.Answers.{answer-as}
 use Rattle.point.proofs.select.eval_select.Statement.{statement}
 use Rattle.point.proofs.select.eval_select.Tie as tie
 
 selection-requires : tie.Need-selection-requires
-selection-requires c κs = select-tested _ _ (sym (c .enum-told .given .1) ∙ c .before .before .test-select .ensures)
+selection-requires c κs = select-tested _ _ (answer-as (c .enum-told .given .1) (c .before .before .test-select .ensures))
 
 returns : tie.Need-returns
 unfolding evalSelectAnswer
-returns c = refused-as _ (sym (c .before .tested .given .1) ∙ c .before .before .before .test-select .ensures)
+returns c = refused-as _ (c .before .tested .given .1) (c .before .before .before .test-select .ensures)
 
 returns-2 : tie.Need-returns-2
 unfolding evalSelectAnswer
 returns-2 c =
     let told = c .before .before in
-    evaluated-as _ _ (sym (told .enum-told .given .1) ∙ told .before .before .test-select .ensures) (c .before .selection .ensures)
+    evaluated-as _ _ (told .enum-told .given .1) (told .before .before .test-select .ensures) (c .before .selection .ensures)
     (c .value .ensures)
 
 pub eval-select-spec : {M : Type 1} → statement M

@@ -6,18 +6,18 @@ use Rattle.point.proofs.select.test_select.Tie as tie
 
 returns : tie.Need-returns
 returns c =
-    let many = c .before .before in
-    let refused = many .before in
-    let either = refused .before .before in
-    gone-through _
+    let below = c .before in
+    let few = below .before .before in
+    let whole = few .before .before in
+    gone-through _ tt
     (rw (
-      c .refuse-if3 .ensures,
-      c .before .refuse-if2 .ensures,
-      many .too-many .ensures,
-      refused .refuse-if .ensures,
-      refused .before .splits .ensures,
-      either .either .ensures,
-      either .before .unreduced .ensures,
+      c .refuse-if4 .ensures,
+      below .refuse-if3 .ensures,
+      below .before .unreduced .ensures,
+      few .refuse-if2 .ensures,
+      few .before .too-many .ensures,
+      whole .refuse-if .ensures,
+      whole .before .splits .ensures,
     ))
 
 pub test-select-spec : {M : Type 1} → statement M

@@ -1,14 +1,14 @@
 -- `poly::value::eval_base` meets its contract: by the tests' answer. Assumes nothing.
-use mathlib.Core.Path.{_≡_, sym, _∙_}
+use mathlib.Core.Path.{_≡_}
 use Prim.Native.Nat.{_^_, _<_}
 use native.Mathlib.Omega.{arith}
 use borrow.Author.Needs.{needs}
 use lib.ListN.{length}
-use Rattle.table.specs.Refusals.{verdict}
+use Rattle.table.specs.Refusals.{answer, verdict}
 use Rattle.table.proofs.Outcomes.{refused-as, evaluated-as}
-use Rattle.weigh.proofs.Weighing.{row, unscaled}
 use Rattle.poly.specs.Values.{baseTests, evalBaseAnswer}
 use Rattle.poly.proofs.ValueOutcomes.{base-verdict, base-tested}
+use Rattle.table.proofs.Answers.{answer-as}
 use Rattle.poly.proofs.value.eval_base.Statement.{statement}
 use Rattle.poly.proofs.value.eval_base.Tie as tie
 
@@ -17,36 +17,31 @@ fits known = omega arith
 
 module _ (test : tie.After-test-value) where
   abbrev known : tie.After-shared-slice-known2
-  known = test .before .before
+  known = test .before .before .before
 
   abbrev begin : tie.Start
   begin = known .before .before
 
-  tested : test .test-value .result ≡ verdict (baseTests (begin .args .table .now) (begin .args .point .now))
-  tested = base-verdict (begin .args .table .now) (begin .args .point .now) (test .test-value .ensures) (test .before .splits .ensures)
+  tested : answer (test .test-value .result) ≡ verdict (baseTests (begin .args .table .now) (begin .args .point .now))
+  tested = base-verdict (begin .args .table .now) (begin .args .point .now) (test .test-value .ensures) (test .before .refuse-if .ensures)
+      (test .before .before .splits .ensures)
 
-weigh-requires : tie.Need-weigh-requires
-weigh-requires c κs =
-    let told = c .before in
-    let test = told .before .before in
+value-requires : tie.Need-value-requires
+value-requires c κs =
+    let test = c .before .before in
     let from = begin test in
-    let t =
     base-tested (from .args .table .now) (from .args .point .now) (fits (known test))
-    (sym (told .enum-told .given .1) ∙ tested test)
-    in
-    ((t .0, c .one .ensures .below), row (t .1))
+    (answer-as (c .enum-told .given .1) (tested test))
 
 returns : tie.Need-returns
 unfolding evalBaseAnswer
-returns c = refused-as _ (sym (c .before .tested .given .1) ∙ tested (c .before .before .before))
+returns c = refused-as _ (c .before .tested .given .1) (tested (c .before .before .before))
 
 returns-2 : tie.Need-returns-2
 unfolding evalBaseAnswer
 returns-2 c =
-    let sum = c .before in
-    let told = sum .before .before in
-    evaluated-as _ _ (sym (told .enum-told .given .1) ∙ tested (told .before .before))
-    (unscaled _ _ (sum .before .one .ensures) (sum .weigh .ensures)) (c .value .ensures)
+    let told = c .before .before in
+    evaluated-as _ _ (told .enum-told .given .1) (tested (told .before .before)) (c .before .value .ensures) (c .value2 .ensures)
 
 pub eval-base-spec : {M : Type 1} → statement M
 eval-base-spec =
@@ -54,10 +49,10 @@ eval-base-spec =
     (tie.spec
     (search needs)
     (search needs)
-    (λ c. search needs)
-    (λ c. search needs)
     (search needs)
-    weigh-requires
+    (λ c. search needs)
+    (λ c. search needs)
+    value-requires
     (search needs)
     returns
     returns-2)

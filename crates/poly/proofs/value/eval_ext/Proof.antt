@@ -1,14 +1,14 @@
 -- `poly::value::eval_ext` meets its contract: by the tests' answer. Assumes nothing.
-use mathlib.Core.Path.{_≡_, sym, _∙_}
+use mathlib.Core.Path.{_≡_}
 use Prim.Native.Nat.{_^_, _<_}
 use native.Mathlib.Omega.{arith}
 use borrow.Author.Needs.{needs}
 use lib.ListN.{length}
-use Rattle.table.specs.Refusals.{verdict}
+use Rattle.table.specs.Refusals.{answer, verdict}
 use Rattle.table.proofs.Outcomes.{refused-as, evaluated-as}
-use Rattle.weigh.proofs.Weighing.{unscaled}
 use Rattle.poly.specs.Values.{extTests, evalExtAnswer}
 use Rattle.poly.proofs.ValueOutcomes.{ext-verdict, ext-tested}
+use Rattle.table.proofs.Answers.{answer-as}
 use Rattle.poly.proofs.value.eval_ext.Statement.{statement}
 use Rattle.poly.proofs.value.eval_ext.Tie as tie
 
@@ -17,37 +17,33 @@ fits known = omega arith
 
 module _ (test : tie.After-test-value) where
   abbrev known : tie.After-shared-slice-known2
-  known = test .before .before .before .before
+  known = test .before .before .before .before .before
 
   abbrev begin : tie.Start
   begin = known .before .before
 
-  tested : test .test-value .result ≡ verdict (extTests (begin .args .table .now) (begin .args .point .now))
-  tested = ext-verdict (begin .args .table .now) (begin .args .point .now) (test .test-value .ensures) (test .before .either .ensures)
-      (test .before .before .before .splits .ensures) (test .before .before .splits2 .ensures)
+  tested : answer (test .test-value .result) ≡ verdict (extTests (begin .args .table .now) (begin .args .point .now))
+  tested =
+      let split = test .before .before .before in
+      ext-verdict (begin .args .table .now) (begin .args .point .now) (test .test-value .ensures) (test .before .refuse-if2 .ensures)
+      (test .before .before .splits2 .ensures) (split .refuse-if .ensures) (split .before .splits .ensures)
 
-weigh-ext-requires : tie.Need-weigh-ext-requires
-weigh-ext-requires c κs =
-    let told = c .before in
-    let test = told .before .before in
+value-ext-requires : tie.Need-value-ext-requires
+value-ext-requires c κs =
+    let test = c .before .before in
     let from = begin test in
-    let t =
     ext-tested (from .args .table .now) (from .args .point .now) (fits (known test))
-    (sym (told .enum-told .given .1) ∙ tested test)
-    in
-    ((t .0, c .one .ensures .below), t .1)
+    (answer-as (c .enum-told .given .1) (tested test))
 
 returns : tie.Need-returns
 unfolding evalExtAnswer
-returns c = refused-as _ (sym (c .before .tested .given .1) ∙ tested (c .before .before .before))
+returns c = refused-as _ (c .before .tested .given .1) (tested (c .before .before .before))
 
 returns-2 : tie.Need-returns-2
 unfolding evalExtAnswer
 returns-2 c =
-    let sum = c .before in
-    let told = sum .before .before in
-    evaluated-as _ _ (sym (told .enum-told .given .1) ∙ tested (told .before .before))
-    (unscaled _ _ (sum .before .one .ensures) (sum .weigh-ext .ensures)) (c .value .ensures)
+    let told = c .before .before in
+    evaluated-as _ _ (told .enum-told .given .1) (tested (told .before .before)) (c .before .value-ext .ensures) (c .value .ensures)
 
 pub eval-ext-spec : {M : Type 1} → statement M
 eval-ext-spec =
@@ -57,10 +53,10 @@ eval-ext-spec =
     (search needs)
     (search needs)
     (search needs)
-    (λ c. search needs)
-    (λ c. search needs)
     (search needs)
-    weigh-ext-requires
+    (λ c. search needs)
+    (λ c. search needs)
+    value-ext-requires
     (search needs)
     returns
     returns-2)

@@ -1,4 +1,4 @@
--- `poly::value::test_value` meets its contract: what the tests are made of. Assumes nothing.
+-- `poly::value::test_value` meets its contract: the tests one by one. Assumes nothing.
 use borrow.Author.Needs.{needs}
 use Rattle.poly.proofs.value.test_value.Statement.{statement}
 use Rattle.poly.proofs.value.test_value.Tie as tie
@@ -6,13 +6,26 @@ use Rattle.poly.proofs.value.test_value.Tie as tie
 returns : tie.Need-returns
 returns c =
     let below = c .before .before in
+    let lengths = below .before .before in
     rw (
-      c .test-entries .ensures,
-      c .before .variables .ensures,
-      below .either .ensures,
-      below .before .unreduced2 .ensures,
-      below .before .before .unreduced .ensures,
+      c .refuse-if3 .ensures,
+      c .before .unreduced2 .ensures,
+      below .refuse-if2 .ensures,
+      below .before .unreduced .ensures,
+      lengths .refuse-if .ensures,
+      lengths .before .variables .ensures,
+      lengths .before .before .refuse-entries .ensures,
     )
 
 pub test-value-spec : {M : Type 1} → statement M
-test-value-spec = tie.close (tie.spec (search needs) (search needs) (search needs) (search needs) (search needs) returns)
+test-value-spec =
+    tie.close
+    (tie.spec
+    (search needs)
+    (search needs)
+    (search needs)
+    (search needs)
+    (search needs)
+    (search needs)
+    (search needs)
+    returns)

@@ -1,11 +1,12 @@
 -- `split_eq::scalar::accumulate_into` meets its contract: by the tests' answer. Assumes nothing.
-use mathlib.Core.Path.{refl, sym, _∙_}
+use mathlib.Core.Path.{refl, _∙_}
 use Prim.Native.Nat.{_^_, _<_}
 use native.Mathlib.Omega.{arith}
 use borrow.Author.Needs.{needs}
 use lib.ListN.{length}
 use Rattle.field.specs.Field.{Reduced}
 use Rattle.table.specs.Table.{entries}
+use Rattle.table.proofs.Answers.{answer-as}
 use Rattle.work.specs.Inner.{Open}
 use Rattle.split_eq.proofs.Tested.{Fillable, accumulate-tested}
 use Rattle.split_eq.proofs.Answers.{accumulated}
@@ -26,7 +27,8 @@ module _ (told : tie.After-enum-told) where
   accepted : Fillable (begin .args .point .now) (begin .args .scale) (begin .args .work .now)
       × Reduced (begin .args .given)
       × Open (entries (begin .args .point .now)) (begin .args .out .now)
-  accepted = accumulate-tested _ _ _ _ _ (fits known) (sym (told .enum-told .given .1) ∙ told .before .before .test-accumulate .ensures)
+  accepted =
+      accumulate-tested _ _ _ _ _ (fits known) (answer-as (told .enum-told .given .1) (told .before .before .test-accumulate .ensures))
 
 fill-requires : tie.Need-fill-requires
 fill-requires c κs = accepted (c .before) .0
@@ -39,14 +41,14 @@ accumulate-requires c κs =
 
 returns : tie.Need-returns
 returns c =
-    accumulated _ _ _ _ _ (sym (c .before .tested .given .1) ∙ c .before .before .before .test-accumulate .ensures) refl refl
+    accumulated _ _ _ _ _ (c .before .tested .given .1) (c .before .before .before .test-accumulate .ensures) refl refl
 
 returns-2 : tie.Need-returns-2
 returns-2 c =
     let sum = c .before .before in
     let fill = sum .before .before .before .before .before in
     let told = fill .before .before in
-    accumulated _ _ _ _ _ (sym (told .enum-told .given .1) ∙ told .before .before .test-accumulate .ensures) (fill .fill .ensures)
+    accumulated _ _ _ _ _ (told .enum-told .given .1) (told .before .before .test-accumulate .ensures) (fill .fill .ensures)
     (sum .accumulate .ensures ∙ gained _ _ _ _ (fill .fill .ensures) _ _)
 
 pub accumulate-into-spec : {M : Type 1} → statement M

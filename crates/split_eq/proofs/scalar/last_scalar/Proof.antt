@@ -1,9 +1,9 @@
 -- `split_eq::scalar::last_scalar` meets its contract: by the tests' answer. Assumes nothing.
-use mathlib.Core.Path.{sym, _∙_}
 use native.Mathlib.Omega.{arith}
 use borrow.Author.Needs.{needs}
 use lib.Pow.{pow-pos}
 use Rattle.table.specs.Table.{entries}
+use Rattle.table.proofs.Answers.{answer-as}
 use Rattle.split_eq.specs.Split.{lastAnswer, lastWork}
 use Rattle.split_eq.proofs.Tested.{Fillable, last-tested}
 use Rattle.split_eq.proofs.Answers.{refused, answered}
@@ -15,7 +15,7 @@ abbrev begin : tie.After-enum-told → tie.Start
 begin told = told .before .before .before .before .before .before
 
 accepted : (told : tie.After-enum-told) → Fillable (begin told .args .point .now) (begin told .args .scale) (begin told .args .work .now)
-accepted told = last-tested _ _ _ (sym (told .enum-told .given .1) ∙ told .before .before .test-last .ensures)
+accepted told = last-tested _ _ _ (answer-as (told .enum-told .given .1) (told .before .before .test-last .ensures))
 
 fill-requires : tie.Need-fill-requires
 fill-requires c κs = accepted (c .before)
@@ -38,7 +38,7 @@ weight-requires c κs =
 
 returns : tie.Need-returns
 unfolding lastAnswer lastWork
-returns c = refused _ _ _ (sym (c .before .tested .given .1) ∙ c .before .before .before .test-last .ensures)
+returns c = refused _ _ _ (c .before .tested .given .1) (c .before .before .before .test-last .ensures)
 
 returns-2 : tie.Need-returns-2
 unfolding lastAnswer lastWork
@@ -46,7 +46,7 @@ returns-2 c =
     let row = c .before in
     let fill = row .before .before .before .before .before in
     let told = fill .before .before in
-    answered _ _ _ _ (sym (told .enum-told .given .1) ∙ told .before .before .test-last .ensures)
+    answered _ _ _ _ (told .enum-told .given .1) (told .before .before .test-last .ensures)
     (last-weight _ _ _ _ (fill .fill .ensures) _ (row .before .rows .ensures) (row .weight .ensures)) (c .value .ensures)
     (fill .fill .ensures)
 

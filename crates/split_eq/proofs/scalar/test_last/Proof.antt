@@ -6,26 +6,25 @@ use Rattle.split_eq.proofs.scalar.test_last.Tie as tie
 
 returns : tie.Need-returns
 returns c =
-    let sized = c .before in
+    let point = c .before .before .before in
+    let sized = point .before .before in
     let few = sized .before .before in
-    let whole = few .before .before in
-    let below = whole .before in
-    let scanned = below .before .before .before in
-    let split = scanned .before in
-    gone-through _
+    let work = few .before .before in
+    let whole = work .before .before in
+    gone-through _ tt
     (rw (
-      c .refuse-if4 .ensures,
-      sized .refuse-if3 .ensures,
+      c .refuse-if6 .ensures,
+      c .before .unreduced2 .ensures,
+      point .refuse-if5 .ensures,
+      point .before .unreduced .ensures,
+      sized .refuse-if4 .ensures,
       sized .before .differs .ensures,
-      few .refuse-if2 .ensures,
+      few .refuse-if3 .ensures,
       few .before .too-many .ensures,
+      work .refuse-if2 .ensures,
+      work .before .splits2 .ensures,
       whole .refuse-if .ensures,
-      below .either2 .ensures,
-      below .before .unreduced2 .ensures,
-      scanned .unreduced .ensures,
-      split .either .ensures,
-      split .before .splits2 .ensures,
-      split .before .before .splits .ensures,
+      whole .before .splits .ensures,
     ))
 
 pub test-last-spec : {M : Type 1} → statement M
@@ -36,13 +35,13 @@ test-last-spec =
     (search needs)
     (search needs)
     (search needs)
+    (search needs)
+    (search needs)
+    (search needs)
+    (search needs)
+    (search needs)
+    (search needs)
     (λ c. search needs)
-    (search needs)
-    (search needs)
-    (search needs)
-    (search needs)
-    (search needs)
-    (search needs)
     (search needs)
     (search needs)
     returns)

@@ -1,12 +1,14 @@
 -- `split_eq::value::eval_ext` meets its contract: by the tests' answer. Assumes nothing.
-use mathlib.Core.Path.{_≡_, sym, _∙_}
+use mathlib.Core.Path.{_≡_}
 use Prim.Native.Nat.{_^_, _<_}
 use native.Mathlib.Omega.{arith}
 use borrow.Author.Needs.{needs}
 use lib.ListN.{length}
 use Rattle.table.specs.Table.{entries}
+use Rattle.table.specs.Refusals.{answer}
+use Rattle.table.proofs.Answers.{answer-as}
 use Rattle.weigh.specs.Weigh.{WholeExt}
-use Rattle.split_eq.specs.Split.{extVerdict, extWork, evalExtAnswer}
+use Rattle.split_eq.specs.Split.{extAnswer, extWork, evalExtAnswer}
 use Rattle.split_eq.proofs.Tested.{Fillable, ext-tested}
 use Rattle.split_eq.proofs.Answers.{ext-answer, refused, answered}
 use Rattle.split_eq.proofs.value.eval_ext.Statement.{statement}
@@ -17,18 +19,19 @@ fits known = omega arith
 
 module _ (test : tie.After-test-value) where
   abbrev known : tie.After-slice-known
-  known = test .before .before .before .before .before .before .before .before
+  known = test .before .before .before .before .before .before .before .before .before
 
   abbrev begin : tie.Start
   begin = known .before .before .before
 
-  tested : test .test-value .result
-      ≡ extVerdict (begin .args .table .now) (begin .args .point .now) (begin .args .scale) (begin .args .work .now)
+  tested : answer (test .test-value .result)
+      ≡ extAnswer (begin .args .table .now) (begin .args .point .now) (begin .args .scale) (begin .args .work .now)
   tested =
-      let split = test .before .before in
-      let operands = split .before .before .before in
-      ext-answer _ _ _ _ (test .test-value .ensures) (split .either2 .ensures) (operands .either .ensures)
-      (operands .before .before .splits .ensures) (operands .before .splits2 .ensures) (split .before .splits3 .ensures)
+      let work = test .before .before in
+      let point = work .before .before .before in
+      let table = point .before .before in
+      ext-answer _ _ _ _ (test .test-value .ensures) (work .refuse-if3 .ensures) (work .before .splits3 .ensures)
+      (point .refuse-if2 .ensures) (point .before .splits2 .ensures) (table .refuse-if .ensures) (table .before .splits .ensures)
 
 module _ (told : tie.After-enum-told) where
   abbrev from : tie.Start
@@ -37,7 +40,7 @@ module _ (told : tie.After-enum-told) where
   accepted : Fillable (from .args .point .now) (from .args .scale) (from .args .work .now)
       × WholeExt (entries (from .args .point .now)) (from .args .table .now)
   accepted =
-      ext-tested _ _ _ _ (fits (known (told .before .before))) (sym (told .enum-told .given .1) ∙ tested (told .before .before))
+      ext-tested _ _ _ _ (fits (known (told .before .before))) (answer-as (told .enum-told .given .1) (tested (told .before .before)))
 
 fill-requires : tie.Need-fill-requires
 fill-requires c κs = accepted (c .before) .0
@@ -49,7 +52,7 @@ scaled-value-ext-requires c κs =
 
 returns : tie.Need-returns
 unfolding evalExtAnswer extWork
-returns c = refused _ _ _ (sym (c .before .tested .given .1) ∙ tested (c .before .before .before))
+returns c = refused _ _ _ (c .before .tested .given .1) (tested (c .before .before .before))
 
 returns-2 : tie.Need-returns-2
 unfolding evalExtAnswer extWork
@@ -57,13 +60,14 @@ returns-2 c =
     let sum = c .before in
     let fill = sum .before .before .before in
     let told = fill .before .before in
-    answered _ _ _ _ (sym (told .enum-told .given .1) ∙ tested (told .before .before)) (sum .scaled-value-ext .ensures) (c .value .ensures)
+    answered _ _ _ _ (told .enum-told .given .1) (tested (told .before .before)) (sum .scaled-value-ext .ensures) (c .value .ensures)
     (fill .fill .ensures)
 
 pub eval-ext-spec : {M : Type 1} → statement M
 eval-ext-spec =
     tie.close
     (tie.spec
+    (λ c κs. search needs)
     (λ c κs. search needs)
     (λ c κs. search needs)
     (λ c κs. search needs)

@@ -29,8 +29,8 @@ returns-2 c =
     let own = sum .before .before in
     let row = own .before .before in
     let pre = begin (row .before) .pre in
-    next-sum (pre .0 .1) _ _ (pre .1 .1) (row .before .if1 .left) (row .weight .ensures) (own .mul-base .ensures) (sum .weigh .ensures)
-    (c .add .ensures)
+    next-sum (pre .0 .1) _ _ (pre .1 .1) (omega (arith, row .before .if1 .left)) (row .weight .ensures) (own .mul-base .ensures)
+    (sum .weigh .ensures) (c .add .ensures)
 
 pub scaled-next-value-spec : {M : Type 1} → statement M
 scaled-next-value-spec =

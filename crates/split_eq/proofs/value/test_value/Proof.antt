@@ -5,20 +5,22 @@ use Rattle.split_eq.proofs.value.test_value.Tie as tie
 
 returns : tie.Need-returns
 returns c =
-    let below = c .before in
-    let scale = below .before in
-    let tables = scale .before .before in
-    let lengths = tables .before .before .before in
+    let point = c .before .before .before in
+    let table = point .before .before in
+    let sized = table .before .before in
+    let lengths = sized .before .before in
     rw (
-      c .test-entries .ensures,
-      below .either3 .ensures,
-      scale .unreduced3 .ensures,
-      tables .either2 .ensures,
-      tables .before .unreduced2 .ensures,
-      tables .before .before .unreduced .ensures,
-      lengths .either .ensures,
-      lengths .before .differs .ensures,
-      lengths .before .before .variables .ensures,
+      c .refuse-if5 .ensures,
+      c .before .unreduced3 .ensures,
+      point .refuse-if4 .ensures,
+      point .before .unreduced2 .ensures,
+      table .refuse-if3 .ensures,
+      table .before .unreduced .ensures,
+      sized .refuse-if2 .ensures,
+      sized .before .differs .ensures,
+      lengths .refuse-if .ensures,
+      lengths .before .variables .ensures,
+      lengths .before .before .refuse-entries .ensures,
     )
 
 pub test-value-spec : {M : Type 1} → statement M
@@ -31,8 +33,10 @@ test-value-spec =
     (search needs)
     (search needs)
     (search needs)
-    (λ c. search needs)
     (search needs)
+    (search needs)
+    (search needs)
+    (λ c. search needs)
     (search needs)
     (search needs)
     returns)

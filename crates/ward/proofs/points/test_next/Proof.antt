@@ -7,19 +7,22 @@ use Rattle.ward.proofs.points.test_next.Tie as tie
 
 returns : tie.Need-returns
 returns c =
-    let whole = c .before .before in
-    let lengths = whole .before in
-    let split = lengths .before .before in
-    let args = split .before .before .before .before .before .args in
-    gone-through _
+    let lengths = c .before in
+    let row-few = lengths .before in
+    let few = row-few .before in
+    let out = few .before in
+    let row = out .before in
+    let whole = row .before in
+    let args = whole .before .before .before .before .args in
+    gone-through _ tt
     (rw (
-      c .refuse-if3 .ensures,
-      c .before .refuse-if2 .ensures,
+      c .refuse-if7 .ensures,
+      lengths .refuse-if6 .ensures,
+      row-few .refuse-if5 .ensures,
+      few .refuse-if4 .ensures,
+      out .refuse-if3 .ensures,
+      row .refuse-if2 .ensures,
       whole .refuse-if .ensures,
-      lengths .either4 .ensures,
-      lengths .before .either3 .ensures,
-      split .either2 .ensures,
-      split .before .either .ensures,
       words-length (args .point .now),
       words-length (args .row .now),
       words-length (args .out .now),

@@ -8,14 +8,15 @@ use Rattle.ward.proofs.points.test_vertex.Tie as tie
 returns : tie.Need-returns
 returns c =
     let few = c .before in
-    let whole = few .before in
-    let args = whole .before .before .before .before .args in
-    gone-through _
+    let out = few .before in
+    let whole = out .before in
+    let args = whole .before .before .before .args in
+    gone-through _ tt
     (rw (
-      c .refuse-if3 .ensures,
-      few .refuse-if2 .ensures,
+      c .refuse-if4 .ensures,
+      few .refuse-if3 .ensures,
+      out .refuse-if2 .ensures,
       whole .refuse-if .ensures,
-      whole .before .either .ensures,
       words-length (args .point .now),
       words-length (args .out .now),
     ))

@@ -1,6 +1,7 @@
 -- `ward::shifted::compress` meets its contract: by the tests' verdict. Assumes nothing.
-use mathlib.Core.Path.{refl, sym, _∙_}
+use mathlib.Core.Path.{refl}
 use borrow.Author.Needs.{needs}
+use Rattle.table.proofs.Answers.{answer-as}
 use Rattle.ward.proofs.Folding.{answered}
 use Rattle.ward.proofs.shifted.compress.Statement.{statement}
 use Rattle.ward.proofs.shifted.compress.Tie as tie
@@ -8,16 +9,16 @@ use Rattle.ward.proofs.shifted.compress.Tie as tie
 fold-requires : tie.Need-fold-requires
 fold-requires c κs =
     let told = c .before .before in
-    record { accepted = sym (told .enum-told .given .1) ∙ told .before .before .test .ensures }
+    record { accepted = answer-as (told .enum-told .given .1) (told .before .before .test .ensures) }
 
 returns : tie.Need-returns
-returns c = answered _ _ _ _ _ _ (sym (c .before .tested .given .1) ∙ c .before .before .before .test .ensures) refl refl
+returns c = answered _ _ _ _ _ _ (c .before .tested .given .1) (c .before .before .before .test .ensures) refl refl
 
 returns-2 : tie.Need-returns-2
 returns-2 c =
     let fold = c .before .before .before .before in
     let told = fold .before .before .before in
-    answered _ _ _ _ _ _ (sym (told .enum-told .given .1) ∙ told .before .before .test .ensures) (fold .fold .ensures .0)
+    answered _ _ _ _ _ _ (told .enum-told .given .1) (told .before .before .test .ensures) (fold .fold .ensures .0)
     (fold .fold .ensures .1)
 
 pub compress-spec : {M : Type 1} → statement M

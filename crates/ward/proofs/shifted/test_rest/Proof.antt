@@ -31,35 +31,36 @@ add-both c =
 
 rows-requires-3 : tie.Need-rows-requires-3
 rows-requires-3 c κs =
-    let words = c .before .before .before .before in
+    let words = c .before .before .before in
     omega (arith, sizes (begin words) .0, c .remaining .ensures, words .before .variables .ensures)
 
 returns : tie.Need-returns
 returns c =
-    let below = c .before .before in
-    let inputs = below .before .before .before in
-    let lengths = inputs .before .before .before in
-    let above = lengths .before .before .before in
-    let rows = above .before in
+    let point = c .before .before .before in
+    let table = point .before .before in
+    let out = table .before .before in
+    let work = out .before in
+    let above = work .before in
+    let places = above .before in
+    let rows = places .before .before in
     let words = rows .before .before in
     let a = begin words .args in
     by-others (a .table .now) (a .point .now) (a .scale) (a .work .now) (a .out .now) (begin words .pre) _
-    (lengths .either2 .result) (below .either4 .result) (words .before .variables .ensures)
-    (rw (c .refuse-if2 .ensures, c .before .refuse-if .ensures))
+    (words .before .variables .ensures)
     (rw (
-      lengths .either2 .ensures,
-      lengths .before .rows3 .ensures,
-      lengths .before .before .remaining .ensures,
-      above .either .ensures,
+      c .refuse-if6 .ensures,
+      c .before .unreduced .ensures,
+      point .refuse-if5 .ensures,
+      point .before .is-unreduced2 .ensures,
+      table .refuse-if4 .ensures,
+      table .before .is-unreduced .ensures,
+      out .refuse-if3 .ensures,
+      work .refuse-if2 .ensures,
+      above .refuse-if .ensures,
+      places .rows3 .ensures,
+      places .before .remaining .ensures,
       rows .rows2 .ensures,
       rows .before .rows .ensures,
-    ))
-    (rw (
-      below .either4 .ensures,
-      below .before .unreduced .ensures,
-      inputs .either3 .ensures,
-      inputs .before .is-unreduced2 .ensures,
-      inputs .before .before .is-unreduced .ensures,
     ))
 
 pub test-rest-spec : {M : Type 1} → statement M
@@ -72,15 +73,15 @@ test-rest-spec =
     rows-requires-2
     add-both
     (search needs)
-    (search needs)
     rows-requires-3
     (search needs)
     (search needs)
     (search needs)
     (search needs)
+    (search needs)
+    (search needs)
+    (search needs)
     (λ c. search needs)
-    (search needs)
-    (search needs)
     (search needs)
     (search needs)
     returns)

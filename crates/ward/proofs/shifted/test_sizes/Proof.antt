@@ -7,22 +7,24 @@ use Rattle.ward.proofs.shifted.test_sizes.Tie as tie
 
 returns : tie.Need-returns
 returns c =
-    let power = c .before .before in
-    let split = power .before .before in
-    let many = split .before in
-    let buffers = many .before .before in
-    let args = buffers .before .before .before .before .before .before .args in
-    gone-through _
+    let small = c .before in
+    let power = small .before .before in
+    let out = power .before .before in
+    let work = out .before in
+    let point = work .before in
+    let whole = point .before in
+    let args = whole .before .before .before .before .before .args in
+    gone-through _ tt
     (rw (
-      c .refuse-if3 .ensures,
-      c .before .refuse-if2 .ensures,
-      power .not-power .ensures,
-      power .before .refuse-if .ensures,
-      split .either4 .ensures,
-      many .either3 .ensures,
-      many .before .too-many-variables .ensures,
-      buffers .either2 .ensures,
-      buffers .before .either .ensures,
+      c .refuse-if7 .ensures,
+      small .refuse-if6 .ensures,
+      small .before .too-many-variables .ensures,
+      power .refuse-if5 .ensures,
+      power .before .not-power .ensures,
+      out .refuse-if4 .ensures,
+      work .refuse-if3 .ensures,
+      point .refuse-if2 .ensures,
+      whole .refuse-if .ensures,
       words-length (args .table .now),
       words-length (args .point .now),
     ))
