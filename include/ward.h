@@ -65,13 +65,13 @@ uint32_t ward_equality_at_vertex(const uint8_t *point, size_t point_len, uint64_
 
 /* out becomes carry, done and omega of two points with as many coordinates. The
    point's table of successors, its last row following itself, has the value
-   done + omega at row.
+   done + omega at other.
 
    out      three elements
-   refused  1 point, row or out splits an element, 3 over 20 coordinates in
+   refused  1 point, other or out splits an element, 3 over 20 coordinates in
             either, 4 their counts differ or out is not three elements, 5 point
-            or row */
-uint32_t ward_eval_next(const uint8_t *point, size_t point_len, const uint8_t *row, size_t row_len, uint8_t *out, size_t out_len);
+            or other */
+uint32_t ward_eval_next(const uint8_t *point, size_t point_len, const uint8_t *other, size_t other_len, uint8_t *out, size_t out_len);
 
 /* out's place i becomes the sum over the 2^k rows y of weight y times the word
    of place i of row y. Weight 0 is 0, weight y is scale * eq[y-1]: each row is

@@ -1,4 +1,4 @@
--- For every point and row that `eval_next` accepts, the table that `new_next_from_point` fills, evaluated by `eval_ext` at the row, is
+-- For every point and other that `eval_next` accepts, the table that `new_next_from_point` fills, evaluated by `eval_ext` at the other, is
 -- done + omega (specs/Agreement.antt, `next-table`). Assumes nothing.
 use mathlib.Core.Path.{_≡_, refl, sym, ap, ap₂, _∙_}
 use mathlib.Core.Bool.{false, not}
@@ -55,7 +55,7 @@ module _ (k : ℕ) (ws : List ℕ) (few : k ≤ most) (l : length ws ≡ 4 * 2 ^
   few-variables : tooManyVariables (entries ws) ≡ false
   few-variables = le-ltb most (variables (entries ws)) (omega (arith, variables-are))
 
-module _ (point row table : List ℕ) (accepted : evalNextAnswer point row .number ≡ 0) (l : length table ≡ 4 * 2 ^ entries point) where
+module _ (point other table : List ℕ) (accepted : evalNextAnswer point other .number ≡ 0) (l : length table ≡ 4 * 2 ^ entries point) where
   abbrev next : ℕ → Ext
   next = nextAt field (pointOf point)
 
@@ -63,20 +63,20 @@ module _ (point row table : List ℕ) (accepted : evalNextAnswer point row .numb
   filled = tableWords (2 ^ entries point) next
 
   abbrev parts : NextParts Ext
-  parts = evalNext field (pointOf point) (pointOf row)
+  parts = evalNext field (pointOf point) (pointOf other)
 
-  passes : verdict (pairTests point row) ≡ 0
+  passes : verdict (pairTests point other) ≡ 0
   unfolding evalNextAnswer
   passes = accepted
 
-  tests : Clear (pairTests point row)
-  tests = clear (pairTests point row) tt (sym passes)
+  tests : Clear (pairTests point other)
+  tests = clear (pairTests point other) tt (sym passes)
 
   few : entries point ≤ most
   few = ltb-false most (entries point) (tests .1 .1 .0)
 
-  alike : entries point ≡ entries row
-  alike = same (entries point) (entries row) (tests .1 .1 .1 .1 .0)
+  alike : entries point ≡ entries other
+  alike = same (entries point) (entries other) (tests .1 .1 .1 .1 .0)
 
   fills : tableAnswer point table ≡ 0
   unfolding tableAnswer verdict
@@ -94,7 +94,7 @@ module _ (point row table : List ℕ) (accepted : evalNextAnswer point row .numb
   unfolding nextOut
   out-is = ap (λ n. leaves n filled table) fills
 
-  evaluates : verdict (extTests filled row) ≡ 0
+  evaluates : verdict (extTests filled other) ≡ 0
   unfolding verdict
   evaluates =
       let n : length filled ≡ 4 * 2 ^ entries point = table-length (2 ^ entries point) next in
@@ -104,36 +104,36 @@ module _ (point row table : List ℕ) (accepted : evalNextAnswer point row .numb
         one-power (entries point) filled few n,
         few-variables (entries point) filled few n,
         tests .1 .1 .1 .0,
-        eq-eqb (variables (entries filled)) (entries row) (variables-are (entries point) filled few n ∙ alike),
+        eq-eqb (variables (entries filled)) (entries other) (variables-are (entries point) filled few n ∙ alike),
         unreduced-table (2 ^ entries point) next,
         tests .1 .1 .1 .1 .1 .1 .0,
       )
       refl
 
-  -- the filled table's value at the row
-  value-is : valueAt field (pointOf row) (elementAt filled) ≡ field .add (parts .done) (parts .omega)
+  -- the filled table's value at the other
+  value-is : valueAt field (pointOf other) (elementAt filled) ≡ field .add (parts .done) (parts .omega)
   unfolding valueAt
   value-is =
       let ks : length (pointOf point) ≡ entries point = elements-length point 0 (entries point) in
-      let rs : length (pointOf row) ≡ entries row = elements-length row 0 (entries row) in
-      let same-length : length (pointOf point) ≡ length (pointOf row) = ks ∙ alike ∙ sym rs in
-      value-ext field-ring (pointOf row) (elementAt filled) next
+      let rs : length (pointOf other) ≡ entries other = elements-length other 0 (entries other) in
+      let same-length : length (pointOf point) ≡ length (pointOf other) = ks ∙ alike ∙ sym rs in
+      value-ext field-ring (pointOf other) (elementAt filled) next
       (λ y b. table-at (2 ^ entries point) next y (rw (alike, sym rs) b))
-      ∙ rw (sym same-length) (successor-laws field-ring .next (pointOf point) (pointOf row) same-length)
+      ∙ rw (sym same-length) (successor-laws field-ring .next (pointOf point) (pointOf other) same-length)
 
-  part-is : (i : ℕ) → i < 3 → elementAt (evalNextAnswer point row .words) i ≡ partOf parts i
+  part-is : (i : ℕ) → i < 3 → elementAt (evalNextAnswer point other .words) i ≡ partOf parts i
   unfolding evalNextAnswer
   part-is i b =
       ap (λ n. elementAt (leaves n (partWords parts) []) i) passes ∙ ap (λ ws. elementAt ws i) (parts-table parts) ∙ table-at 3 (partOf parts) i b
 
-  value-given : evalExtAnswer (nextOut point table) row ≡ evaluated 0 (field .add (doneOf point row) (omegaOf point row))
+  value-given : evalExtAnswer (nextOut point table) other ≡ evaluated 0 (field .add (doneOf point other) (omegaOf point other))
   unfolding evalExtAnswer partOf
   value-given =
-      ap (λ ws. evaluated (verdict (extTests ws row)) (valueAt field (pointOf row) (elementAt ws))) out-is
-      ∙ ap (λ n. evaluated n (valueAt field (pointOf row) (elementAt filled))) evaluates
+      ap (λ ws. evaluated (verdict (extTests ws other)) (valueAt field (pointOf other) (elementAt ws))) out-is
+      ∙ ap (λ n. evaluated n (valueAt field (pointOf other) (elementAt filled))) evaluates
       ∙ ap (evaluated 0) (value-is ∙ sym (ap₂ (field .add) (part-is 1 (omega arith)) (part-is 2 (omega arith))))
 
-pub next-words : (point row table : List ℕ) → evalNextAnswer point row .number ≡ 0 → length table ≡ 4 * 2 ^ entries point
+pub next-words : (point other table : List ℕ) → evalNextAnswer point other .number ≡ 0 → length table ≡ 4 * 2 ^ entries point
     → (tableAnswer point table ≡ 0)
-    × (evalExtAnswer (nextOut point table) row ≡ evaluated 0 (field .add (doneOf point row) (omegaOf point row)))
-next-words point row table a l = (fills point row table a l, value-given point row table a l)
+    × (evalExtAnswer (nextOut point table) other ≡ evaluated 0 (field .add (doneOf point other) (omegaOf point other)))
+next-words point other table a l = (fills point other table a l, value-given point other table a l)

@@ -1,24 +1,22 @@
 -- Block after block, from the section's first word to its last: how that starts, steps and ends. Assumes nothing.
 use mathlib.Core.Path.{_≡_, sym, ap, _∙_}
-use Prim.Native.Nat.{ℕ, _+_, _-_, _*_, _%_, _^_, _≤_, _<_}
+use Prim.Native.Nat.{ℕ, _+_, _-_, _*_, _%_, _^_, _≤_, _<_, min}
 use native.Mathlib.Nat.{zero-mod, mod-self, mod-add-mod, mul-mod-right, mul-mod-left, zero-add}
 use native.Mathlib.Decide.{decLt}
 use native.Mathlib.Omega.{arith}
 use mathlib.Core.List.{List}
-use lib.ListN.{length, replicate, length-replicate}
+use lib.ListN.{length, replicate}
 use lib.Pow.{pow-add, pow-pos, pow-mono}
-use Rattle.algebra.specs.Ring.{Ops}
 use Rattle.octets.specs.Octets.{words}
 use Rattle.multilinear.specs.declared.Side.{Side}
 use Rattle.multilinear.specs.declared.Side.the-variants.{Prefix, Suffix}
-use Rattle.multilinear.proofs.Folds.{fold-ext, fold-none}
-use Rattle.field.specs.Field.{base}
-use Rattle.field.specs.declared.Element.{Element}
-use Rattle.field.proofs.Laws.{field-ring, base-zero}
-use Rattle.table.proofs.Laws.{table-length, table-ext}
-use Rattle.table.proofs.Parts.{table-zeros}
-use Rattle.byte_fold.specs.Inner.{Section, Block, mostBlock, firstRow}
-use Rattle.byte_fold.proofs.Blocks.{past, sumsTo}
+use Rattle.table.proofs.Laws.{table-length}
+use Rattle.plan.specs.declared.Plan.{Plan}
+use Rattle.plan.specs.Plan.{places, capacity}
+use Rattle.plan.proofs.Joining.{none}
+use Rattle.plan.proofs.Sections.{all-words}
+use Rattle.byte_fold.specs.declared.Section.{Section}
+use Rattle.byte_fold.specs.Inner.{Cut, Block, mostBlock, firstRow, firstWords, sumsTo}
 
 -- what follows whole rows
 rest-of : (m a c : ℕ) → a % m ≡ 0 → (a + c) % m ≡ c % m
@@ -30,80 +28,76 @@ rest-of m a c h = sym (mod-add-mod a m c) ∙ (rw (h, zero-add c))
     ap (λ m. m % 2 ^ held) (sym (sym (pow-add 2 held (12 - held)) ∙ ap (λ m. 2 ^ m) q)) ∙ mul-mod-right (2 ^ held) (2 ^ (12 - held))
 
 -- the next block has at most `len` words
-pub record Adding (side : Side) (n k held from : ℕ) (ws point : List ℕ) (scale : Element) (at len : ℕ) (sums : List ℕ) : Type 0 where
-  pub within : at ≤ 2 ^ (k + held)
+pub record Adding (s : Section) (ws : List ℕ) (at len : ℕ) (sums : List ℕ) : Type 0 where
+  pub within : at ≤ capacity (s .plan)
   pub some : 0 < len
   pub few : len ≤ mostBlock
-  pub rows : side ≡ Prefix → (at % 2 ^ held ≡ 0) × (len % 2 ^ held ≡ 0)
-  pub size : length sums ≡ 4 * 2 ^ held
-  pub sums-are : sums ≡ sumsTo side n k held from ws point scale at
+  pub whole : s .plan .side ≡ Prefix → (at % places (s .plan) ≡ 0) × (len % places (s .plan) ≡ 0)
+  pub sums-are : sums ≡ sumsTo s ws at
 
 -- the first row
-first-some : (side : Side) (held : ℕ) → 0 < firstRow side held
-first-some Prefix held = pow-pos held
-first-some Suffix held = omega arith
+first-some : (side : Side) (m : ℕ) → 0 < m → 0 < firstRow side m
+first-some Prefix m h = h
+first-some Suffix m h = omega arith
 
-first-few : (side : Side) (held : ℕ) → held ≤ 10 → firstRow side held ≤ 4096
-first-few Prefix held h = let le : 2 ^ held ≤ 2 ^ 10 = pow-mono h in omega arith
-first-few Suffix held h = omega arith
+first-few : (side : Side) (m : ℕ) → m ≤ 2 ^ 10 → firstRow side m ≤ 4096
+first-few Prefix m h = omega arith
+first-few Suffix m h = omega arith
 
-module _ {side : Side} {n k held from : ℕ} {table point : List ℕ} {scale : Element} (s : Section n k held from table point scale) where
-  pub start : {len : ℕ} {sums : List ℕ} → len ≡ firstRow side held → sums ≡ replicate (4 * 2 ^ held) 0
-      → Adding side n k held from (words table) point scale 0 len sums
-  start l e =
+module _ {s : Section} {table : List ℕ} (d : Cut s table) where
+  abbrev H : ℕ
+  H = places (s .plan)
+
+  pub start : {len m z : ℕ} {sums : List ℕ} → len ≡ firstRow (s .plan .side) m → m ≡ H → z ≡ 4 * H → sums ≡ replicate z 0
+      → Adding s (words table) 0 len sums
+  unfolding firstWords
+  start l r e q =
       record {
         within = omega arith;
-        some = rw l (first-some side held);
-        few = rw l (first-few side held (s .few));
-        rows = λ q. (zero-mod (2 ^ held), rw (l, q) (mod-self (2 ^ held)));
-        size = ap length e ∙ length-replicate (4 * 2 ^ held) 0;
-        sums-are = e ∙ table-zeros (2 ^ held)
-            ∙ table-ext (2 ^ held) _ _ (λ i h. sym
-            (fold-ext field-ring _ _ _ _ _ _ _
-            (λ t. ap base (past side n k held from (words table) 0 t (omega arith)) ∙ base-zero) i
-            ∙ fold-none field-ring _ _ _ _ _ i));
+        some = rw (l, r) (first-some (s .plan .side) H (pow-pos (s .plan .n - s .plan .k)));
+        few = rw (l, r) (first-few (s .plan .side) H (pow-mono (d .few)));
+        whole = λ p. (zero-mod H, rw (l, r, p) (mod-self H));
+        sums-are = q ∙ ap (λ m. replicate m 0) e ∙ none (s .plan);
       }
 
-  module _ {at len end count : ℕ} {sums : List ℕ} (d : Adding side n k held from (words table) point scale at len sums)
-      (q : end ≡ 2 ^ (k + held)) (more : at < end) (c : count ≡ len - (len - (end - at))) where
+  module _ {at len end count : ℕ} {sums : List ℕ} (a : Adding s (words table) at len sums) (q : end ≡ capacity (s .plan))
+      (more : at < end) (c : count ≡ min len (end - at)) where
     pub count-some : 0 < count
-    count-some = omega (arith, d .some, c)
+    count-some = omega (arith, a .some, c)
 
     pub count-within : at + count ≤ end
     count-within = omega (arith, c)
 
-    count-rows : side ≡ Prefix → count % 2 ^ held ≡ 0
+    count-rows : s .plan .side ≡ Prefix → count % H ≡ 0
     count-rows e = go (decLt len (end - at))
       where
-        all : end % 2 ^ held ≡ 0
-        all = rw (q, pow-add 2 k held) (mul-mod-left (2 ^ k) (2 ^ held))
-
-        go : Dec (len < end - at) → count % 2 ^ held ≡ 0
-        go (yes h) = let l : count ≡ len = omega (arith, c) in rw l (d .rows e .1)
+        go : Dec (len < end - at) → count % H ≡ 0
+        go (yes h) = let l : count ≡ len = omega (arith, c) in rw l (a .whole e .1)
         go (no h) =
             let l : at + count ≡ end = omega (arith, c) in
-            sym (rest-of (2 ^ held) at count (d .rows e .0)) ∙ (rw l all)
+            sym (rest-of H at count (a .whole e .0)) ∙ (rw (l, q, all-words (s .plan) (d .sound .fits)) (mul-mod-left _ H))
 
-    pub block : Block side k held at count
+    pub block : Block (s .plan) at count
     block =
         record {
           within = rw (sym q) count-within;
-          most-words = omega (arith, c, d .few);
-          rows = λ e. (d .rows e .0, count-rows e);
+          most-words = omega (arith, c, a .few);
+          whole = λ e. (a .whole e .0, count-rows e);
         }
 
-    pub turn : {w : List ℕ} → w ≡ sumsTo side n k held from (words table) point scale (at + count)
-        → Adding side n k held from (words table) point scale (at + count) 4096 w
+    pub turn : {w : List ℕ} → w ≡ sumsTo s (words table) (at + count) → Adding s (words table) (at + count) 4096 w
     turn e =
         record {
           within = block .within;
           some = omega arith;
           few = omega arith;
-          rows = λ e. (rest-of (2 ^ held) at count (d .rows e .0) ∙ count-rows e, 4096-is held (s .few));
-          size = ap length e ∙ table-length (2 ^ held) _;
+          whole = λ e. (rest-of H at count (a .whole e .0) ∙ count-rows e, 4096-is (s .plan .n - s .plan .k) (d .few));
           sums-are = e;
         }
 
-  pub finish : {at len end : ℕ} {sums : List ℕ} → Adding side n k held from (words table) point scale at len sums
-      → end ≡ 2 ^ (k + held) → end ≤ at → sums ≡ sumsTo side n k held from (words table) point scale (2 ^ (k + held))
-  finish {at} d q h = let e : at ≡ 2 ^ (k + held) = omega (arith, d .within) in rw e at (d .sums-are)
+  pub finish : {at len end : ℕ} {sums : List ℕ} → Adding s (words table) at len sums → end ≡ capacity (s .plan) → end ≤ at
+      → sums ≡ sumsTo s (words table) (capacity (s .plan))
+  finish {at} a q h = let e : at ≡ capacity (s .plan) = omega (arith, a .within) in rw e at (a .sums-are)
+
+  pub sums-size : {at len : ℕ} {sums : List ℕ} → Adding s (words table) at len sums → length sums ≡ 4 * H
+  sums-size a = ap length (a .sums-are) ∙ table-length H _

@@ -5,124 +5,99 @@ use native.Mathlib.Nat.{add-mul, add-assoc, mul-comm, mul-le-mul-right, le-of-mu
 use native.Mathlib.Omega.{arith}
 use mathlib.Core.List.{List}
 use lib.ListN.{length, getD, take, drop}
-use lib.Pow.{pow-add, pow-pos, pow-mono}
+use lib.Pow.{pow-pos}
 use Rattle.octets.specs.Octets.{words}
 use Rattle.octets.proofs.Octets.{words-length}
-use Rattle.multilinear.specs.declared.Side.{Side}
 use Rattle.multilinear.specs.declared.Side.the-variants.{Prefix, Suffix}
-use Rattle.table.proofs.Parts.{part-length, part-word}
-use Rattle.byte_fold.specs.Inner.{Gathers, Gathered, Strided, Rowed, sectionAt}
+use Rattle.plan.specs.Plan.{rows, places, capacity}
+use Rattle.plan.specs.Section.{originOf}
+use Rattle.plan.proofs.Sections.{all-words}
+use Rattle.byte_fold.specs.declared.Section.{Section}
+use Rattle.byte_fold.specs.Inner.{Cut, Block, Strided, sectionAt, blockAt, firstWords, rowWord}
+use Rattle.byte_fold.proofs.Words.{first-ext, first-part}
 
--- a table's words are 2^k rows
-words-of : (n k : ℕ) → k ≤ n → 2 ^ n ≡ 2 ^ k * 2 ^ (n - k)
-words-of n k h = let q : k + (n - k) ≡ n = omega arith in ap (λ m. 2 ^ m) (sym q) ∙ pow-add 2 k (n - k)
+module _ {s : Section} {table : List ℕ} {at count : ℕ} (d : Cut s table) (b : Block (s .plan) at count) where
+  abbrev R : ℕ
+  R = rows (s .plan)
 
-module _ {side : Side} {n k held from at : ℕ} {table block : List ℕ} (s : Gathers side n k held from table at block) where
   abbrev H : ℕ
-  H = 2 ^ held
+  H = places (s .plan)
 
-  abbrev count : ℕ
-  count = length block
+  there : length (words table) ≡ R * s .inner
+  there = omega (arith, words-length table, d .count)
 
-  -- the section's word i of the block
-  abbrev word : ℕ → ℕ
-  word i = sectionAt side n k held from (words table) (at + i)
+  all : capacity (s .plan) ≡ R * H
+  all = all-words (s .plan) (d .sound .fits)
 
-  few : 2 ^ n ≤ 1048576
-  few = pow-mono (s .small)
-
-  all : 2 ^ n ≡ 2 ^ k * 2 ^ (n - k)
-  all = words-of n k (omega (arith, s .fits))
-
-  -- words that follow each other in the table
-  read-on : (start : ℕ) {w : List ℕ} → 4 * (start + count) ≤ length table → w ≡ take count (drop start (words table))
-      → ((i : ℕ) → i < count → getD (words table) (start + i) 0 ≡ word i)
-      → Gathered side n k held from (words table) at count w
-  read-on start there e is =
-      record {
-        len = ap length e ∙ part-length start count (words table) (omega (arith, words-length table));
-        words-are = λ i h. ap (λ xs. getD xs i 0) e ∙ part-word start count (words table) i h ∙ is i h;
-      }
-
-  module _ {rows : ℕ} (r : rows ≡ 2 ^ k) where
-    pub suffix-there : 4 * (from * rows + at + count) ≤ length table
+  module _ {rs : ℕ} (r : rs ≡ 2 ^ s .plan .k) where
+    pub suffix-there : 4 * (s .from * rs + at + count) ≤ length table
     suffix-there =
-        let le : (from + H) * 2 ^ k ≤ 2 ^ (n - k) * 2 ^ k = mul-le-mul-right {m = from + H} {n = 2 ^ (n - k)} (2 ^ k) (s .within) in
-        let q : (from + H) * 2 ^ k ≡ from * 2 ^ k + 2 ^ (k + held) =
-        add-mul from H (2 ^ k) ∙ ap (λ m. from * 2 ^ k + m) (mul-comm H (2 ^ k) ∙ sym (pow-add 2 k held)) in
-        let t : 2 ^ (n - k) * 2 ^ k ≡ 2 ^ n = mul-comm (2 ^ (n - k)) (2 ^ k) ∙ sym all in
-        rw r (omega (arith, s .count, s .block-is .within))
+        let le : (s .from + H) * R ≤ s .inner * R = mul-le-mul-right {m = s .from + H} {n = s .inner} R (d .within) in
+        rw r (omega (arith, d .count, b .within, all, add-mul (s .from) H R, mul-comm H R, mul-comm (s .inner) R))
 
-    pub suffix-read : side ≡ Suffix → {w : List ℕ} → w ≡ take count (drop (from * rows + at) (words table))
-        → Gathered side n k held from (words table) at count w
-    unfolding sectionAt
+    pub suffix-read : s .plan .side ≡ Suffix → {w : List ℕ} → w ≡ take count (drop (s .from * rs + at) (words table))
+        → w ≡ blockAt s (words table) at count
+    unfolding originOf
     suffix-read e q =
-        read-on (from * rows + at) suffix-there q (λ i h. rw (e, r) (ap (λ m. getD (words table) m 0) (add-assoc (from * 2 ^ k) at i)))
+        q
+        ∙ first-part (s .from * rs + at) count _ (words table) (omega (arith, suffix-there, words-length table))
+        (λ i h. rw (e, r) (ap (λ m. getD (words table) m 0) (add-assoc (s .from * R) at i)))
 
-  -- one section
-  module _ (whole : held ≡ n - k) where
-    pub whole-there : 4 * (at + count) ≤ length table
-    whole-there =
-        let q : k + held ≡ n = omega (arith, s .fits) in
-        omega (arith, s .count, s .block-is .within, ap (λ m. 2 ^ m) q)
+  module _ {ps : ℕ} (e : s .plan .side ≡ Prefix) (r : ps ≡ 2 ^ (s .plan .n - s .plan .k)) where
+    -- one section
+    module _ (whole : ps ≡ s .inner) where
+      pub whole-there : 4 * (at + count) ≤ length table
+      whole-there = omega (arith, d .count, b .within, all, ap (λ m. R * m) (sym r ∙ whole))
 
-    pub whole-read : side ≡ Prefix → {w : List ℕ} → w ≡ take count (drop at (words table))
-        → Gathered side n k held from (words table) at count w
-    unfolding sectionAt
-    whole-read e q =
-        let z : from ≡ 0 = omega (arith, s .within, ap (λ m. 2 ^ m) whole) in
-        read-on at whole-there q (λ i h. rw (e, ← whole) (ap (λ m. getD (words table) m 0) (omega (arith, div-add-mod' (at + i) H, z))))
+      pub whole-read : {w : List ℕ} → w ≡ take count (drop at (words table)) → w ≡ blockAt s (words table) at count
+      unfolding originOf
+      whole-read q =
+          let z : s .from ≡ 0 = omega (arith, d .within) in
+          q
+          ∙ first-part at count _ (words table) (omega (arith, whole-there, words-length table))
+          (λ i h. rw (e, ← whole, r) (ap (λ m. getD (words table) m 0) (omega (arith, div-add-mod' (at + i) H, z))))
 
-  -- rows of the places of one section among others
-  module _ (e : side ≡ Prefix) {places inner : ℕ} (p : places ≡ 2 ^ held) (q : inner ≡ 2 ^ (n - k)) where
+    -- rows of the places of one section among others
     at-row : at / H * H ≡ at
-    at-row = omega (arith, div-add-mod' at H, s .block-is .rows e .0)
-
-    of-rows : count / H * H ≡ count
-    of-rows = omega (arith, div-add-mod' count H, s .block-is .rows e .1)
+    at-row = omega (arith, div-add-mod' at H, b .whole e .0)
 
     -- the block's rows are among the table's
-    row-within : at / H + count / H ≤ 2 ^ k
+    row-within : at / H + count / H ≤ R
     row-within =
-        le-of-mul-le-mul-right {m = at / H + count / H} {n = 2 ^ k} {k = H}
-        (omega (arith, add-mul (at / H) (count / H) H, at-row, of-rows, s .block-is .within, pow-add 2 k held)) (pow-pos held)
+        le-of-mul-le-mul-right {m = at / H + count / H} {n = R} {k = H}
+        (omega (arith, add-mul (at / H) (count / H) H, at-row, div-add-mod' count H, b .whole e .1, b .within, all))
+        (pow-pos (s .plan .n - s .plan .k))
 
-    row-there : (r : ℕ) → r ≤ 2 ^ k → r * 2 ^ (n - k) ≤ 2 ^ n
-    row-there r h = rw all (mul-le-mul-right {m = r} {n = 2 ^ k} (2 ^ (n - k)) h)
+    row-there : (m : ℕ) → m ≤ R → 4 * (m * s .inner) ≤ length table
+    row-there m h = omega (arith, d .count, mul-le-mul-right {m = m} {n = R} (s .inner) h)
 
-    pub start-fits : at / places * inner + from ≤ 2097152
+    pub start-fits : at / ps * s .inner + s .from ≤ length table
     start-fits =
-        let le : 2 ^ (n - k) ≤ 2 ^ n = pow-mono {i = n - k} {j = n} (omega arith) in
-        rw (p, q) (omega (arith, row-there (at / H) (omega (arith, row-within)), few, s .within))
+        rw r (omega (arith, row-there (at / H) (omega (arith, row-within)), row-there 1 (pow-pos (s .plan .k)), d .within))
 
-    pub strided : Strided places inner (at / places * inner + from) table block
+    pub strided : Strided ps (s .inner) (at / ps * s .inner + s .from) table count
     strided =
         record {
-          some = rw p (pow-pos held);
-          whole = rw p (s .block-is .rows e .1);
-          there = λ r h. rw (p, q)
+          some = rw r (pow-pos (s .plan .n - s .plan .k));
+          whole = rw r (b .whole e .1);
+          there = λ m h. rw r
               (omega (
                 arith,
-                row-there (at / H + r + 1) (omega (arith, row-within, (rw p at h))),
-                add-mul (at / H + r) 1 (2 ^ (n - k)),
-                add-mul (at / H) r (2 ^ (n - k)),
-                s .within,
-                s .count,
+                row-there (at / H + m + 1) (omega (arith, row-within, (rw r at h))),
+                add-mul (at / H + m) 1 (s .inner),
+                add-mul (at / H) m (s .inner),
+                d .within,
               ));
         }
 
-    origin : (i : ℕ) → at / H * 2 ^ (n - k) + from + i / H * 2 ^ (n - k) + i % H ≡ (at + i) / H * 2 ^ (n - k) + from + (at + i) % H
-    origin i =
-        let d : (at + i) / H ≡ at / H + i / H =
-        ap (λ m. (m + i) / H) (sym at-row) ∙ mul-add-div-right (pow-pos held) (at / H) i in
-        let m : (at + i) % H ≡ i % H = ap (λ m. (m + i) % H) (sym at-row) ∙ mul-add-mod-self-right (at / H) H i in
-        rw (d, m) (omega (arith, add-mul (at / H) (i / H) (2 ^ (n - k))))
-
-    pub rows-read : {w : List ℕ} → Rowed places inner (at / places * inner + from) (words table) count w
-        → Gathered side n k held from (words table) at count w
-    unfolding sectionAt
-    rows-read d =
-        record {
-          len = d .len;
-          words-are = λ i h. d .words-are i h ∙ rw (e, p, q) (ap (λ m. getD (words table) m 0) (origin i));
-        }
+    pub rows-read : {w : List ℕ} → w ≡ firstWords count (rowWord ps (s .inner) (at / ps * s .inner + s .from) (words table))
+        → w ≡ blockAt s (words table) at count
+    unfolding originOf
+    rows-read q = q ∙ first-ext count _ _ (λ i h. rw (e, r) (ap (λ m. getD (words table) m 0) (origin i)))
+      where
+        origin : (i : ℕ) → at / H * s .inner + s .from + i / H * s .inner + i % H ≡ (at + i) / H * s .inner + s .from + (at + i) % H
+        origin i =
+            let m : (at + i) / H ≡ at / H + i / H =
+            ap (λ m. (m + i) / H) (sym at-row) ∙ mul-add-div-right (pow-pos (s .plan .n - s .plan .k)) (at / H) i in
+            let l : (at + i) % H ≡ i % H = ap (λ m. (m + i) % H) (sym at-row) ∙ mul-add-mod-self-right (at / H) H i in
+            rw (m, l) (omega (arith, add-mul (at / H) (i / H) (s .inner)))

@@ -1,96 +1,102 @@
--- A section is a fold of its own: its place i is place from + i of the whole fold. Assumes nothing.
-use mathlib.Core.Path.{_≡_, refl, sym, ap, _∙_}
-use Prim.Native.Nat.{ℕ, zero, suc, _+_, _-_, _*_, _^_, _≤_, _<_}
-use native.Mathlib.Nat.{add-assoc, add-mul, suc-mul, mul-comm, mul-le-mul-right}
+-- Section after section, each in its part of the bytes: how that starts, steps and ends. Assumes nothing.
+use mathlib.Core.Path.{_≡_, sym, ap, _∙_}
+use Prim.Native.Nat.{ℕ, _+_, _-_, _*_, _^_, _≤_, _<_, min}
+use native.Mathlib.Nat.{mul-zero, mul-add, mul-one, mul-le-mul-left}
 use native.Mathlib.Omega.{arith}
-use mathlib.Core.List.{List, _∷_, _++_}
-use lib.ListN.{length, getD, take, drop, replicate, length-append, length-replicate}
-use lib.Pow.{pow-add, pow-mono, high, low}
-use lib.Seq.{length-take-le, take-at}
-use Rattle.algebra.specs.Ring.{Ops}
-use Rattle.algebra.proofs.Sums.{sum-ext}
-use Rattle.octets.specs.Octets.{octets}
-use Rattle.multilinear.specs.declared.Side.{Side}
-use Rattle.multilinear.specs.declared.Side.the-variants.{Prefix, Suffix}
-use Rattle.multilinear.specs.declared.Weight.the-variants.{Shifted}
-use Rattle.multilinear.specs.Folds.{wordOf, foldAt}
-use Rattle.field.specs.Field.{Ext, field, base, fromWords}
-use Rattle.field.specs.declared.Element.{Element}
-use Rattle.field.proofs.Laws.{field-ring}
-use Rattle.table.specs.Table.{tableWords, elements}
-use Rattle.table.proofs.Laws.{table-length, table-ext, elements-length}
-use Rattle.byte_fold.specs.Inner.{sectionAt, sectionBefore}
-use Rattle.byte_fold.proofs.Blocks.{among, placeOf, sumsTo}
-
--- the first m of n zeros
-front-zeros : (m n : ℕ) → m ≤ n → take {A = ℕ} m (replicate n 0) ≡ replicate m 0
-front-zeros zero n h = refl
-front-zeros (suc m) zero h = absurd (omega arith)
-front-zeros (suc m) (suc n) h = ap (λ ws. 0 ∷ ws) (front-zeros m n (omega arith))
-
--- an array of zeros, of which the words of 2^held places are lent
-module _ {held rows : ℕ} (few : held ≤ 10) (r : rows ≡ 2 ^ held) {array : List ℕ} (e : array ≡ replicate 4096 0) where
-  some : 4 * rows ≤ 4096
-  some = let le : 2 ^ held ≤ 2 ^ 10 = pow-mono few in omega arith
-
-  pub enough : 4 * rows ≤ length array
-  enough = omega (arith, some, ap length e ∙ length-replicate {A = ℕ} 4096 0)
-
-  pub lent : length (take (4 * rows) array) ≡ 4 * rows
-  lent = length-take-le (4 * rows) array enough
-
-  pub zeros : take (4 * rows) array ≡ replicate (4 * 2 ^ held) 0
-  zeros = ap (take (4 * rows)) e ∙ front-zeros (4 * rows) 4096 some ∙ ap (λ m. replicate (4 * m) 0) r
-
-  -- and came back as their table
-  module _ {sums : List ℕ} (f : ℕ → Ext) (q : sums ≡ tableWords (2 ^ held) f) where
-    pub size : length sums ≡ 4 * rows
-    size = ap length q ∙ table-length (2 ^ held) f ∙ ap (λ m. 4 * m) (sym r)
-
-    pub front : take (4 * rows) (sums ++ drop (4 * rows) array) ≡ sums
-    front = take-at sums (drop (4 * rows) array) (4 * rows) size
-
-    pub enough-after : 4 * rows ≤ length (sums ++ drop (4 * rows) array)
-    enough-after = omega (arith, length-append sums (drop (4 * rows) array), size)
-
--- place a of b, one of n groups of b
-group-within : (a b i n : ℕ) → a < n → i < b → a * b + i < n * b
-group-within a b i n h l =
-    let le : (a + 1) * b ≤ n * b = mul-le-mul-right {m = a + 1} {n = n} b (omega arith) in
-    omega (arith, suc-mul a b)
+use mathlib.Core.List.{List, _++_}
+use lib.ListN.{length, getD}
+use lib.Pow.{pow-add}
+use borrow.Rule.Slice.PartMut.{midOf, putMid}
+use Rattle.octets.specs.Octets.{words, octets}
+use Rattle.octets.proofs.Octets.{octets-length, octets-append}
+use Rattle.field.specs.Field.{Ext, base}
+use Rattle.table.specs.Table.{tableWords}
+use Rattle.table.proofs.Laws.{table-length, table-append}
+use Rattle.plan.specs.declared.Plan.{Plan}
+use Rattle.plan.specs.Plan.{rows, places, capacity, placeOf, foldOf}
+use Rattle.plan.specs.Section.{sectionOf, originOf}
+use Rattle.plan.proofs.Sections.{all-words, places-of, section}
+use Rattle.byte_fold.specs.declared.Section.{Section}
+use Rattle.byte_fold.specs.Inner.{FillsBytes, cutOf, Cut, sumsTo}
+use Rattle.byte_fold.proofs.Words.{first-at}
+use Rattle.piece.proofs.Fronts.{Front, front-start, front-lent, front-turn, front-end}
 
 -- place i of the whole fold
-abbrev pub wholeAt : Side → ℕ → ℕ → List ℕ → List ℕ → Element → ℕ → Ext
-wholeAt side n k ws point scale i =
-    foldAt field side Shifted (2 ^ (n - k)) (elements point 0 k) (fromWords scale) (λ t. base (getD ws t 0)) i
+abbrev wholeAt : Plan → List ℕ → ℕ → Ext
+wholeAt plan ws i = placeOf plan (λ t. base (getD ws t 0)) i
 
-module _ (n k held from : ℕ) (ws : List ℕ) where
-  -- the word of place i and row y
-  word-of : (side : Side) (i y : ℕ) → i < 2 ^ held → y < 2 ^ k
-      → sectionBefore side n k held from ws (2 ^ (k + held)) (wordOf side (2 ^ held) (2 ^ k) i y)
-      ≡ getD ws (wordOf side (2 ^ (n - k)) (2 ^ k) (from + i) y) 0
-  unfolding sectionAt
-  word-of Prefix i y h l =
-      among Prefix n k held from ws (2 ^ (k + held)) (y * 2 ^ held + i) (rw (pow-add 2 k held) (group-within y (2 ^ held) i (2 ^ k) l h))
-      ∙ (rw (high y held h, low y held h) (ap (λ m. getD ws m 0) (add-assoc (y * 2 ^ (n - k)) from i)))
-  word-of Suffix i y h l =
-      among Suffix n k held from ws (2 ^ (k + held)) (i * 2 ^ k + y)
-      (rw (pow-add 2 k held, mul-comm (2 ^ k) (2 ^ held)) (group-within i (2 ^ k) y (2 ^ held) h l))
-      ∙ ap (λ m. getD ws m 0) (omega (arith, add-mul from i (2 ^ k)))
+bytes-of : (m : ℕ) (f : ℕ → Ext) → length (octets (tableWords m f)) ≡ 16 * m
+bytes-of m f = omega (arith, octets-length (tableWords m f), table-length m f)
 
-  module _ (side : Side) (point : List ℕ) (scale : Element) where
-    place-is : (i : ℕ) → i < 2 ^ held
-        → placeOf side k held point scale (sectionBefore side n k held from ws (2 ^ (k + held))) i
-        ≡ wholeAt side n k ws point scale (from + i)
-    unfolding foldAt
-    place-is i h =
-        sum-ext field-ring (2 ^ length (elements point 0 k)) _ _ (λ y l. ap (field .mul _) (ap base (there y l)))
-      where
-        there : (y : ℕ) → y < 2 ^ length (elements point 0 k)
-            → sectionBefore side n k held from ws (2 ^ (k + held)) (wordOf side (2 ^ held) (2 ^ length (elements point 0 k)) i y)
-            ≡ getD ws (wordOf side (2 ^ (n - k)) (2 ^ length (elements point 0 k)) (from + i) y) 0
-        there y l = rw (elements-length point 0 k) (word-of side i y h (rw (elements-length point 0 k) at l))
+-- the bytes of the first m places stand in out
+pub record Joined (plan : Plan) (ws : List ℕ) (m : ℕ) (was out : List ℕ) : Type 0 where
+  pub front : Front (16 * m) (octets (tableWords m (wholeAt plan ws))) was out
 
-    pub encoded : {sums w : List ℕ} → sums ≡ sumsTo side n k held from ws point scale (2 ^ (k + held)) → w ≡ octets sums
-        → w ≡ octets (tableWords (2 ^ held) (λ i. wholeAt side n k ws point scale (from + i)))
-    encoded e q = q ∙ ap octets (e ∙ table-ext (2 ^ held) _ _ place-is)
+module _ {plan : Plan} {table was : List ℕ} (s : FillsBytes plan table was) {held size count : ℕ} (h : held ≡ min (plan .n - plan .k) 10)
+    (r : size ≡ 2 ^ held) (c : count ≡ 2 ^ (plan .n - plan .k - held)) where
+  pub start : Joined plan (words table) (size * 0) was was
+  unfolding octets tableWords
+  start = record { front = rw (mul-zero size) (front-start was) }
+
+  all-places : size * count ≡ places plan
+  all-places =
+      let q : held + (plan .n - plan .k - held) ≡ plan .n - plan .k = omega arith in
+      rw (r, c) (sym (pow-add 2 held (plan .n - plan .k - held)) ∙ ap (λ m. 2 ^ m) q)
+
+  module _ {j : ℕ} (b : j < count) where
+    within : size * j + size ≤ places plan
+    within =
+        let le : size * (j + 1) ≤ size * count = mul-le-mul-left {m = j + 1} {n = count} size (omega arith) in
+        omega (arith, all-places, mul-add size j 1, mul-one size)
+
+    pub part-within : 16 * (size * j) + 16 * size ≤ length was
+    part-within = omega (arith, within, s .room)
+
+    module _ {σ : Section} (e : σ ≡ cutOf plan held (size * j)) where
+      pub cut : Cut σ table
+      cut =
+          rw e
+          (record {
+            sound = record {
+              small = omega (arith, s .sound .small, s .sound .fits, h);
+              fits = omega arith;
+              scale-is = s .sound .scale-is;
+              coordinates-below = s .sound .coordinates-below;
+            };
+            few = omega (arith, h);
+            within = omega (arith, within, r, places-of plan held);
+            count = s .count ∙ ap (λ m. 4 * m) (all-words plan (s .sound .fits));
+            below = s .below;
+          })
+
+      module _ {out : List ℕ} (d : Joined plan (words table) (size * j) was out) where
+        abbrev a : ℕ
+        a = 16 * (size * j)
+
+        pub lent : length (midOf a (a + 16 * size - a) out) ≡ 16 * places (σ .plan)
+        lent = front-lent (d .front) (16 * size) part-within ∙ ap (λ m. 16 * m) (r ∙ sym (places-of plan held) ∙ ap (λ (x : Section). places (x .plan)) (sym e))
+
+        pub turn : {ys : List ℕ} → ys ≡ octets (sumsTo σ (words table) (capacity (σ .plan)))
+            → Joined plan (words table) (size * (j + 1)) was (putMid a (a + 16 * size - a) out ys)
+        turn {ys} q =
+            let more : size * (j + 1) ≡ size * j + size = mul-add size j 1 ∙ ap (λ m. size * j + m) (mul-one size) in
+            let next : a + 16 * size ≡ 16 * (size * j + size) = omega arith in
+            let part : ys ≡ octets (tableWords size (λ i. wholeAt plan (words table) (size * j + i))) =
+            q ∙ ap (λ (x : Section). octets (sumsTo x (words table) (capacity (x .plan)))) e
+            ∙ ap octets
+            (section plan held (size * j) (λ t. base (getD (words table) t 0)) _
+            (λ t l. ap base
+            (first-at _ _ t l
+            ∙ ap (λ m. getD (words table) (originOf (plan .side) (places plan) (rows plan) m (size * j) t) 0) (places-of plan held)))
+            ∙ ap (λ m. tableWords m (λ i. wholeAt plan (words table) (size * j + i))) (sym r)) in
+            record {
+              front = rw (more, table-append (size * j) size (wholeAt plan (words table)), octets-append, ← part, ← next)
+                  (front-turn (d .front) (16 * size) part-within ys (ap length part ∙ bytes-of size _));
+            }
+
+  pub finish : {j : ℕ} {out : List ℕ} → Joined plan (words table) (size * j) was out → j ≤ count → count ≤ j
+      → out ≡ octets (foldOf plan (words table))
+  finish {j} d l g =
+      let q : j ≡ count = omega arith in
+      let all : size * j ≡ places plan = ap (λ i. size * i) q ∙ all-places in
+      front-end (rw all at (d .front)) (s .room)

@@ -1,21 +1,17 @@
-// Shifted folds of a table in bytes, with no copy of it: the sums of at most 2^10 places are held at a time, and their words are read
-// in blocks of at most 4,096.
+// Folds of a table in bytes, with no copy of it: the sums of at most 2^10 places are held at a time, and their words are read in blocks
+// of at most 4,096.
 //
 //     places   | section | section | ..      each section is a fold of its own, of the words of its places
 //     words    | block | block | ..
-use field::Element;
 use multilinear::Side;
-use multilinear::Weight;
+use plan::Plan;
 ghost use mathlib.Core.Path.{_≡_};
-ghost use Prim.Native.Nat.{_+_, _-_, _*_, _^_, _≤_, _<_};
-ghost use lib.ListN.{length, getD, replicate};
+ghost use Prim.Native.Nat.{_+_, _-_, _*_, _≤_};
+ghost use lib.ListN.{length, replicate};
 ghost use Rattle.octets.specs.Octets.{words, octets};
-ghost use Rattle.algebra.specs.Ring.{Ops};
-ghost use Rattle.multilinear.specs.declared.Weight.the-variants.{Shifted};
-ghost use Rattle.multilinear.specs.Folds.{foldAt};
-ghost use Rattle.field.specs.Field.{field, base, fromWords};
-ghost use Rattle.table.specs.Table.{tableWords, elements};
-ghost use Rattle.byte_fold.specs.Inner.{Folds, Section, sectionBefore, Block, firstRow, Gathers, Gathered, Strided, Rowed};
+ghost use Rattle.plan.specs.Plan.{places, capacity, foldOf};
+ghost use Rattle.plan.specs.Sound.{Sound};
+ghost use Rattle.byte_fold.specs.Inner.{mostBlock, FillsBytes, cutOf, Cut, blockAt, sumsTo, Block, firstRow, firstWords, Strided, rowWord};
 
 // The most places whose sums are held at a time, as variables.
 const HELD: usize = 10;
@@ -23,164 +19,120 @@ const HELD: usize = 10;
 // The most words of a block.
 const BLOCK: usize = 4096;
 
-// out becomes the bytes of the shifted fold.
-pub fn compress_shifted(
-    side: Side,
-    table: &[u8],
-    point: &[u32],
-    n: usize,
-    k: usize,
-    scale: Element,
-    out: &mut [u8],
-)
-    requires { ⌜ Folds n k (now table) (now point) scale (now out) ⌝ }
-    ensures { λ _. ⌜ now (out .exit) ≡ octets (tableWords (2 ^ (n - k)) (foldAt field side Shifted (2 ^ (n - k)) (elements (now (point .entry)) 0 k) (fromWords scale) (λ t. base (getD (words (now (table .entry))) t 0)))) ⌝ }
+// The places from `from` on of a table of `inner` places, as many as the plan has.
+struct Section {
+    plan: Plan,
+    inner: usize,
+    from: usize,
+}
+
+// out becomes the bytes of the fold.
+pub fn compress(plan: Plan, table: &[u8], out: &mut [u8])
+    requires { ⌜ FillsBytes plan (now table) (now out) ⌝ }
+    ensures { λ _. ⌜ now (out .exit) ≡ octets (foldOf plan (words (now (table .entry)))) ⌝ }
 {
-    let held = table::smaller(n - k, HELD);
+    let held = table::min(plan.n - plan.k, HELD);
     let places = table::rows(held);
-    for j in 0..table::rows(n - k - held) {
+    for j in 0..table::rows(plan.n - plan.k - held) {
         let from = places * j;
         let start = 16 * from;
         let stop = start + 16 * places;
-        fold_section(
+        fold_section(section_of(plan, held, from), table, &mut out[start..stop]);
+    }
+}
+
+// 2^held places of a fold, from place `from` on.
+fn section_of(plan: Plan, held: usize, from: usize) -> Section
+    requires { ⌜ Sound plan × (held ≤ plan .n - plan .k) ⌝ }
+    ensures { λ r. ⌜ r ≡ cutOf plan held from ⌝ }
+{
+    let side = plan.side;
+    let weight = plan.weight;
+    let scale = plan.scale;
+    let coordinates = plan.coordinates;
+    Section {
+        plan: Plan {
+            n: plan.k + held,
+            k: plan.k,
             side,
-            table,
-            point,
-            n,
-            k,
-            held,
-            from,
+            weight,
             scale,
-            &mut out[start..stop],
-        );
+            coordinates,
+        },
+        inner: table::rows(plan.n - plan.k),
+        from,
     }
 }
 
 // The section's places, in its part of out.
-fn fold_section(
-    side: Side,
-    table: &[u8],
-    point: &[u32],
-    n: usize,
-    k: usize,
-    held: usize,
-    from: usize,
-    scale: Element,
-    out: &mut [u8],
-)
-    requires { ⌜ Section n k held from (now table) (now point) scale × (length (now out) ≡ 16 * 2 ^ held) ⌝ }
-    ensures { λ _. ⌜ now (out .exit) ≡ octets (tableWords (2 ^ held) (λ i. foldAt field side Shifted (2 ^ (n - k)) (elements (now (point .entry)) 0 k) (fromWords scale) (λ t. base (getD (words (now (table .entry))) t 0)) (from + i))) ⌝ }
+fn fold_section(section: Section, table: &[u8], out: &mut [u8])
+    requires { ⌜ Cut section (now table) × (length (now out) ≡ 16 * places (section .plan)) ⌝ }
+    ensures { λ _. ⌜ now (out .exit) ≡ octets (sumsTo section (words (now (table .entry))) (capacity (section .plan))) ⌝ }
 {
     let mut sums = room();
-    let len = 4 * table::rows(held);
-    add_blocks(
-        side,
-        table,
-        point,
-        n,
-        k,
-        held,
-        from,
-        scale,
-        &mut sums[..len],
-    );
+    let len = 4 * table::rows(section.plan.n - section.plan.k);
+    add_blocks(section, table, &mut sums[..len]);
     octets::encode(&sums[..len], out);
 }
 
-// The sums of the section's places, zeros at first, gain block after block. A row's weight is that of the row before, so blocks that
-// start a row late have the weights of whole blocks of rows; the first row weighs nothing.
-fn add_blocks(
-    side: Side,
-    table: &[u8],
-    point: &[u32],
-    n: usize,
-    k: usize,
-    held: usize,
-    from: usize,
-    scale: Element,
-    sums: &mut [u32],
-)
-    requires { ⌜ Section n k held from (now table) (now point) scale × (now sums ≡ replicate (4 * 2 ^ held) 0) ⌝ }
-    ensures { λ _. ⌜ now (sums .exit) ≡ tableWords (2 ^ held) (foldAt field side Shifted (2 ^ held) (elements (now (point .entry)) 0 k) (fromWords scale) (λ t. base (sectionBefore side n k held from (words (now (table .entry))) (2 ^ (k + held)) t))) ⌝ }
+// The sums of the section's places gain block after block. A shifted row's weight is that of the row before, so blocks that start a row
+// late have the weights of whole blocks of rows; the first row weighs nothing.
+fn add_blocks(section: Section, table: &[u8], sums: &mut [u32])
+    requires { ⌜ Cut section (now table) × (length (now sums) ≡ 4 * places (section .plan)) ⌝ }
+    ensures { λ _. ⌜ now (sums .exit) ≡ sumsTo section (words (now (table .entry))) (capacity (section .plan)) ⌝ }
 {
-    let end = table::rows(k + held);
+    let plan = section.plan;
+    let side = plan.side;
+    let end = table::rows(plan.n);
     let mut at = 0;
-    let mut len = first_row(side, held);
+    let mut len = first_row(side, table::rows(plan.n - plan.k));
+    table::clear(sums);
     while at < end {
-        let count = table::smaller(len, end - at);
-        add_block(side, table, point, n, k, held, from, at, count, scale, sums);
+        let count = table::min(len, end - at);
+        add_block(section, table, at, count, sums);
         at += count;
         len = BLOCK;
     }
 }
 
 // The words of the first row that come first: all of it, or the first place's one.
-fn first_row(side: Side, held: usize) -> usize
-    requires { ⌜ held ≤ 10 ⌝ }
-    ensures { λ r. ⌜ r ≡ firstRow side held ⌝ }
+fn first_row(side: Side, places: usize) -> usize
+    ensures { λ r. ⌜ r ≡ firstRow side places ⌝ }
 {
     match side {
-        Side::Prefix => table::rows(held),
+        Side::Prefix => places,
         Side::Suffix => 1,
     }
 }
 
 // The sums gain a block.
-fn add_block(
-    side: Side,
-    table: &[u8],
-    point: &[u32],
-    n: usize,
-    k: usize,
-    held: usize,
-    from: usize,
-    at: usize,
-    count: usize,
-    scale: Element,
-    sums: &mut [u32],
-)
-    requires { ⌜ Section n k held from (now table) (now point) scale × Block side k held at count ⌝ }
-    requires { ⌜ now sums ≡ tableWords (2 ^ held) (foldAt field side Shifted (2 ^ held) (elements (now point) 0 k) (fromWords scale) (λ t. base (sectionBefore side n k held from (words (now table)) at t))) ⌝ }
-    ensures { λ _. ⌜ now (sums .exit) ≡ tableWords (2 ^ held) (foldAt field side Shifted (2 ^ held) (elements (now (point .entry)) 0 k) (fromWords scale) (λ t. base (sectionBefore side n k held from (words (now (table .entry))) (at + count) t))) ⌝ }
+fn add_block(section: Section, table: &[u8], at: usize, count: usize, sums: &mut [u32])
+    requires { ⌜ Cut section (now table) × Block (section .plan) at count ⌝ }
+    requires { ⌜ now sums ≡ sumsTo section (words (now table)) at ⌝ }
+    ensures { λ _. ⌜ now (sums .exit) ≡ sumsTo section (words (now (table .entry))) (at + count) ⌝ }
 {
     let mut words = room();
-    gather(side, table, n, k, held, from, at, &mut words[..count]);
-    piece::add(
-        side,
-        Weight::Shifted,
-        k + held,
-        k,
-        scale,
-        point,
-        at,
-        &words[..count],
-        sums,
-    );
+    gather(section, table, at, &mut words[..count]);
+    let plan = section.plan;
+    piece::add(plan, at, &words[..count], sums);
 }
 
 // Fills block with the section's words from word `at` on.
-fn gather(
-    side: Side,
-    table: &[u8],
-    n: usize,
-    k: usize,
-    held: usize,
-    from: usize,
-    at: usize,
-    block: &mut [u32],
-)
-    requires { ⌜ Gathers side n k held from (now table) at (now block) ⌝ }
-    ensures { λ _. ⌜ Gathered side n k held from (words (now (table .entry))) at (length (now (block .entry))) (now (block .exit)) ⌝ }
+fn gather(section: Section, table: &[u8], at: usize, block: &mut [u32])
+    requires { ⌜ Cut section (now table) × Block (section .plan) at (length (now block)) ⌝ }
+    ensures { λ _. ⌜ now (block .exit) ≡ blockAt section (words (now (table .entry))) at (length (now (block .entry))) ⌝ }
 {
+    let plan = section.plan;
+    let side = plan.side;
     match side {
-        Side::Suffix => octets::decode(table, from * table::rows(k) + at, block),
+        Side::Suffix => octets::decode(table, section.from * table::rows(plan.k) + at, block),
         Side::Prefix => {
-            if held == n - k {
+            let places = table::rows(plan.n - plan.k);
+            if places == section.inner {
                 octets::decode(table, at, block);
             } else {
-                let places = table::rows(held);
-                let inner = table::rows(n - k);
-                gather_rows(table, inner, places, at / places * inner + from, block);
+                let start = at / places * section.inner + section.from;
+                gather_rows(table, section.inner, places, start, block);
             }
         }
     }
@@ -188,8 +140,9 @@ fn gather(
 
 // Fills block with rows of `places` words that stand `inner` words apart in the table, from word `start` on.
 fn gather_rows(table: &[u8], inner: usize, places: usize, start: usize, block: &mut [u32])
-    requires { ⌜ Strided places inner start (now table) (now block) ⌝ }
-    ensures { λ _. ⌜ Rowed places inner start (words (now (table .entry))) (length (now (block .entry))) (now (block .exit)) ⌝ }
+    requires { ⌜ Strided places inner start (now table) (length (now block)) ⌝ }
+    ensures { λ _. ⌜ now (block .exit)
+        ≡ firstWords (length (now (block .entry))) (rowWord places inner start (words (now (table .entry)))) ⌝ }
 {
     for r in 0..block.len() / places {
         let a = r * places;
@@ -198,8 +151,9 @@ fn gather_rows(table: &[u8], inner: usize, places: usize, start: usize, block: &
     }
 }
 
-fn room() -> [u32; 4096]
-    ensures { λ r. ⌜ r ≡ replicate 4096 0 ⌝ }
+// The words of a block, or of the places that are held.
+fn room() -> [u32; BLOCK]
+    ensures { λ r. ⌜ r ≡ replicate mostBlock 0 ⌝ }
 {
-    [0u32; 4096]
+    [0u32; BLOCK]
 }

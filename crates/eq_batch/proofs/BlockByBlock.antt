@@ -14,8 +14,8 @@ use Rattle.multilinear.specs.Equality.{eqAt}
 use Rattle.multilinear.proofs.Split.{eq-split}
 use Rattle.table.specs.Table.{elements}
 use Rattle.table.proofs.Laws.{elements-length}
-use Rattle.table.specs.Inner.{Gained}
-use Rattle.table.proofs.Parts.{elements-append}
+use Rattle.table.specs.Gained.{Gained}
+use Rattle.table.proofs.Parts.{elements-cut}
 use Rattle.table.proofs.Gaining.{none, blocks}
 use Rattle.eq_batch.specs.Inner.{Room, scaledAt}
 use Rattle.eq_batch.proofs.Rooms.{room-beyond}
@@ -48,15 +48,13 @@ module _ (point : List ℕ) (n : ℕ) (scale : Element) where
     abbrev vs : List Ext
     vs = elements point (n - low) low
 
-    parts : elements point 0 n ≡ us ++ vs
-    parts =
-        ap (elements point 0) (sym (joined cut)) ∙ elements-append point 0 (n - low) low
-        ∙ ap (λ a. us ++ elements point a low) (zero-add (n - low))
+    parts : us ++ vs ≡ elements point 0 n
+    parts = rw zero-add at (elements-cut point 0 (cut .few))
 
     row : (h y : ℕ) → y < 2 ^ low → eqAt field (elements point 0 n) (h * rows + y) ≡ field .mul (eqAt field us h) (eqAt field vs y)
     row h y b =
         let l : 2 ^ length vs ≡ 2 ^ low = ap (λ (k : ℕ). 2 ^ k) (elements-length point (n - low) low) in
-        ap₂ (λ zs m. eqAt field zs (h * m + y)) parts (cut .rows-are ∙ sym l) ∙ eq-split field-ring us vs h y (rw l b)
+        ap₂ (λ zs m. eqAt field zs (h * m + y)) (sym parts) (cut .rows-are ∙ sym l) ∙ eq-split field-ring us vs h y (rw l b)
 
     module _ (h : ℕ) (ws w : List ℕ) (d : Gained 0 (h * rows) (scaledAt scale point 0 n) ws w) (b : h < end) where
       pub room : Room 0 (2 ^ n) ws → Room (h * rows) (2 ^ low) w

@@ -3,5 +3,3 @@ mod Gathering
 mod Blocks
 mod BlockByBlock
 mod Summing
-mod Accepted
-mod BatchOutcomes

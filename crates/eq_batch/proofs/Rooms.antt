@@ -1,17 +1,24 @@
--- The room of a batch's sum: in words of zeros, after a gain, and past what was gained. Assumes nothing.
+-- The room of a batch's sum: in words that were tested, in words of zeros, after a gain, and past what was gained. Assumes nothing.
 use mathlib.Core.Path.{_≡_, ap}
+use mathlib.Core.Bool.{false}
 use Prim.Native.Nat.{ℕ, _+_, _*_, _≤_}
 use native.Mathlib.Nat.{zero-add}
 use native.Mathlib.Omega.{arith}
 use mathlib.Core.List.{List}
 use lib.ListN.{length, replicate, length-replicate}
-use Rattle.field.specs.Field.{Ext}
+use Rattle.algebra.specs.Words.{unreduced}
+use Rattle.field.specs.Field.{p, Ext}
 use Rattle.field.proofs.Laws.{reduced}
-use Rattle.table.specs.Inner.{Gained}
+use Rattle.table.specs.Gained.{Gained}
 use Rattle.table.proofs.Parts.{get-zeros}
+use Rattle.table.proofs.Tests.{reduced-at}
 use Rattle.eq_batch.specs.Inner.{Room}
 
--- words of zeros have room
+-- reduced words have room
+pub room-words : (n : ℕ) (ws : List ℕ) → length ws ≡ 4 * n → unreduced p ws ≡ false → Room 0 n ws
+room-words n ws l u = record { fits = omega arith; reduced = λ y h. reduced-at ws u (0 + y) }
+
+-- and so have words of zeros
 pub room-zeros : (m n : ℕ) → n ≡ 4 * m → {ws : List ℕ} → ws ≡ replicate n 0 → Room 0 m ws
 room-zeros m n l e =
     record {

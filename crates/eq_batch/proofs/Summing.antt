@@ -10,7 +10,7 @@ use Rattle.field.specs.declared.Element.{Element}
 use Rattle.field.proofs.Laws.{read-as}
 use Rattle.multilinear.specs.Equality.{eqAt}
 use Rattle.multilinear.specs.Beside.{evalBatch}
-use Rattle.table.specs.Inner.{Gained}
+use Rattle.table.specs.Gained.{Gained}
 use Rattle.table.proofs.Gaining.{nothing, added}
 use Rattle.eq_batch.specs.Inner.{Room}
 

@@ -2,29 +2,28 @@
 //
 //     out[y] = sum_j scalar_j eq(point_j)[y]
 //
-// A point's table is made in blocks of at most 2^8 rows, in an array of the function's own (4 KiB), and added to out block by block:
+// A point's table is made in blocks of at most 2^8 rows, in an array (4 KiB), and added to out block by block:
 // 2^n products a point, and at most 13 more a block.
 use field::Element;
 use table::Refusal;
 use table::Verdict;
+use weigh::BLOCK;
 ghost use mathlib.Core.Path.{_≡_};
 ghost use mathlib.Core.Bool.{true, false, not, _&&_};
 ghost use Prim.Native.Nat.{_+_, _*_, _^_, _≤_};
 ghost use lib.Dec.{eqb};
-ghost use lib.ListN.{length, replicate};
+ghost use lib.ListN.{replicate};
 ghost use Rattle.field.specs.Field.{Reduced};
 ghost use Rattle.table.specs.Table.{elementAt};
 ghost use Rattle.table.specs.Refusals.{answer, verdict};
-ghost use Rattle.table.specs.Inner.{Gained};
-ghost use Rattle.point.specs.Inner.{Coordinates};
+ghost use Rattle.table.specs.Gained.{Gained};
+ghost use Rattle.point.specs.Coordinates.{Coordinates};
+ghost use Rattle.weigh.specs.Weigh.{blockVariables};
 ghost use Rattle.eq_batch.specs.Batch.{batchTests, batchAnswer, batchAt, setOut, addOut};
 ghost use Rattle.eq_batch.specs.Inner.{Room, Points, Column, Gathered, scaledAt};
 
 // The most points of a batch.
 pub const MOST_POINTS: usize = 64;
-
-// The variables of a block.
-const BLOCK: usize = 8;
 
 // out becomes the sum.
 pub fn eval_eq_batch(n: usize, points: &[u32], scalars: &[u32], out: &mut [u32]) -> Verdict
@@ -136,7 +135,7 @@ fn add_point(point: &[u32], n: usize, scale: Element, out: &mut [u32])
     requires { ⌜ (Coordinates n (now point) × Reduced scale) × Room 0 (2 ^ n) (now out) ⌝ }
     ensures { λ _. ⌜ Gained 0 (2 ^ n) (scaledAt scale (now (point .entry)) 0 n) (now (out .entry)) (now (out .exit)) ⌝ }
 {
-    let low = table::smaller(n, BLOCK);
+    let low = table::min(n, BLOCK);
     let high = n - low;
     let rows = table::rows(low);
     for h in 0..table::rows(high) {
@@ -147,21 +146,12 @@ fn add_point(point: &[u32], n: usize, scale: Element, out: &mut [u32])
 
 // out gains, from place `from` on, seed eq of the low coordinates that follow the high ones.
 fn add_block(point: &[u32], high: usize, low: usize, seed: Element, from: usize, out: &mut [u32])
-    requires { ⌜ (Coordinates (high + low) (now point) × Reduced seed) × ((low ≤ 8) × Room from (2 ^ low) (now out)) ⌝ }
+    requires { ⌜ (Coordinates (high + low) (now point) × Reduced seed) × ((low ≤ blockVariables) × Room from (2 ^ low) (now out)) ⌝ }
     ensures { λ _. ⌜ Gained from (2 ^ low) (scaledAt seed (now (point .entry)) high low) (now (out .entry)) (now (out .exit)) ⌝ }
 {
     let rows = table::rows(low);
-    let words = 4 * rows;
-    let mut block = block_room();
-    point::equality::fill_last(&mut block[..words], point, high, low, seed);
+    let block = weigh::block_of(point, high, low, seed);
     add_table(&block, rows, from, out);
-}
-
-// Room for a block.
-fn block_room() -> [u32; 1024]
-    ensures { λ r. ⌜ length r ≡ 1024 ⌝ }
-{
-    [0u32; 1024]
 }
 
 // out gains the first n elements of summands, from place `from` on.

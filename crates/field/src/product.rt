@@ -21,21 +21,21 @@ pub fn coordinate_0(x: Element, y: Element) -> u32
     requires { ⌜ Reduced x × Reduced y ⌝ }
     ensures { λ r. ⌜ r ≡ (coefficient x y 0 + factor * (coefficient x y 4 % p)) % p ⌝ }
 {
-    fold(coefficient_0(x, y), coefficient_4(x, y))
+    with_high(coefficient_0(x, y), coefficient_4(x, y))
 }
 
 pub fn coordinate_1(x: Element, y: Element) -> u32
     requires { ⌜ Reduced x × Reduced y ⌝ }
     ensures { λ r. ⌜ r ≡ (coefficient x y 1 + factor * (coefficient x y 5 % p)) % p ⌝ }
 {
-    fold(coefficient_1(x, y), coefficient_5(x, y))
+    with_high(coefficient_1(x, y), coefficient_5(x, y))
 }
 
 pub fn coordinate_2(x: Element, y: Element) -> u32
     requires { ⌜ Reduced x × Reduced y ⌝ }
     ensures { λ r. ⌜ r ≡ (coefficient x y 2 + factor * (coefficient x y 6 % p)) % p ⌝ }
 {
-    fold(coefficient_2(x, y), coefficient_6(x, y))
+    with_high(coefficient_2(x, y), coefficient_6(x, y))
 }
 
 pub fn coordinate_3(x: Element, y: Element) -> u32
@@ -46,7 +46,7 @@ pub fn coordinate_3(x: Element, y: Element) -> u32
 }
 
 // The residue of low + factor high, where both together are at most four products: shrunk, high has room for the factor.
-fn fold(low: u64, high: u64) -> u32
+fn with_high(low: u64, high: u64) -> u32
     requires { ⌜ low + high ≤ 4 * ((p - 1) * (p - 1)) ⌝ }
     ensures { λ r. ⌜ r ≡ (low + factor * (high % p)) % p ⌝ }
 {

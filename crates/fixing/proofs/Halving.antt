@@ -30,21 +30,12 @@ secondOf Prefix h i = h + i
 secondOf Sum h i = h + i
 secondOf Monomial h i = h + i
 
--- the two entries of entry i, at or past it and among the 2h
-abbrev pub Ahead : ℕ → ℕ → ℕ → Type 0
-Ahead h i j = (i ≤ j) × (j < 2 * h)
-
-pub first-ahead : (rule : Rule) (h i : ℕ) → i < h → Ahead h i (firstOf rule i)
-first-ahead Prefix h i m = omega arith
-first-ahead Suffix h i m = omega arith
-first-ahead Sum h i m = omega arith
-first-ahead Monomial h i m = omega arith
-
-pub second-ahead : (rule : Rule) (h i : ℕ) → i < h → Ahead h i (secondOf rule h i)
-second-ahead Prefix h i m = omega arith
-second-ahead Suffix h i m = omega arith
-second-ahead Sum h i m = omega arith
-second-ahead Monomial h i m = omega arith
+-- the two entries of entry i are at or past it
+ahead : (rule : Rule) (h i : ℕ) → (i ≤ firstOf rule i) × (i ≤ secondOf rule h i)
+ahead Prefix h i = omega arith
+ahead Suffix h i = omega arith
+ahead Sum h i = omega arith
+ahead Monomial h i = omega arith
 
 -- made one, they are entry i of what remains
 combined-at : (rule : Rule) (h i : ℕ) (t : ℕ → Ext) (r : Ext)
@@ -63,9 +54,11 @@ pub start : (rule : Rule) (h : ℕ) (r : Ext) (ws : List ℕ) → Halving rule h
 start rule h r ws = record { within = omega arith; made = none _ 0 ws }
 
 module _ (rule : Rule) (h i : ℕ) (r : Ext) (ws w : List ℕ) (d : Halving rule h i r ws w) where
-  -- an entry that is read is reduced as it was
-  pub read : (j : ℕ) → Ahead h i j → unreduced p ws ≡ false → {e : Element} → e ≡ getAt w j → Reduced e
-  read j a u g = rw (g, later (d .made) j (a .0)) (reduced-at ws u j)
+  -- entries that are read are reduced as they were
+  pub reads : unreduced p ws ≡ false → {a₀ a₁ : Element} → a₀ ≡ getAt w (firstOf rule i) → a₁ ≡ getAt w (secondOf rule h i)
+      → Reduced a₀ × Reduced a₁
+  reads u g₀ g₁ =
+      rw (g₀, g₁, later (d .made) _ (ahead rule h i .0), later (d .made) _ (ahead rule h i .1)) (reduced-at ws u _, reduced-at ws u _)
 
   -- of the values that the calls of a turn give
   pub turn : i < h → length ws ≡ 8 * h → {a₀ a₁ e : Element} {w₁ : List ℕ} → a₀ ≡ getAt w (firstOf rule i)
@@ -75,7 +68,7 @@ module _ (rule : Rule) (h i : ℕ) (r : Ext) (ws w : List ℕ) (d : Halving rule
       record {
         within = omega arith;
         made = making.turn (d .made) (omega arith) (omega arith) (λ a₀ a₁. combined rule a₀ a₁ r) (firstOf rule i) (secondOf rule h i)
-            (first-ahead rule h i m .0) (second-ahead rule h i m .0) (combined-at rule h i (elementAt ws) r) g₀ g₁ e₂ e₃;
+            (ahead rule h i .0) (ahead rule h i .1) (combined-at rule h i (elementAt ws) r) g₀ g₁ e₂ e₃;
       }
 
   pub finish : i ≡ h → length ws ≡ 8 * h → w ≡ halved rule h ws r

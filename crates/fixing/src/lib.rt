@@ -146,7 +146,7 @@ fn sum_halves(entries: &mut [u32], h: usize) -> bool
 {
     let mut at = 0;
     while at < h {
-        let n = table::smaller(PART, h - at);
+        let n = table::min(PART, h - at);
         if either(
             is_part_unreduced(entries, at, n),
             is_part_unreduced(entries, h + at, n),

@@ -12,6 +12,6 @@ use Rattle.foldframes.specs.Progress.{Going, stopped, Within}
 pub ended : {at r : Progress} {line out : List ℕ} → r ≡ stopped at → Going at line out → Going r line out
 ended e g = rw e (record { ready = g .ready; held = g .held; room = g .room })
 
-pub places-fit : {r : Reader} {out : List ℕ} {places : ℕ} → Within r out → places ≡ 2 ^ (r .session .n - r .session .k)
+pub places-fit : {r : Reader} {out : List ℕ} {places : ℕ} → Within r out → places ≡ 2 ^ (r .session .plan .n - r .session .plan .k)
     → 4 * places ≤ length out
 places-fit w e = omega (arith, w .room, pow-mono (w .small))

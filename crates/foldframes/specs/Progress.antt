@@ -20,6 +20,6 @@ stopped at = record { go = false; reader = at .reader; used = at .used }
 
 -- out has an element for each of the session's places
 pub record Within (r : Reader) (out : List ℕ) : Type 0 where
-  pub small : r .session .n - r .session .k ≤ mostPlaces
-  pub fits : r .session .k ≤ r .session .n
+  pub small : r .session .plan .n - r .session .plan .k ≤ mostPlaces
+  pub fits : r .session .plan .k ≤ r .session .plan .n
   pub room : length out ≡ 4 * 2 ^ mostPlaces

@@ -127,7 +127,10 @@ fn print(answer: Verdict, reader: Reader, out: &[u32]) -> bool
         Verdict::Accepted => {
             let phase = reader.phase;
             if frames::is_done(phase) {
-                print_out(out, table::rows(reader.session.n - reader.session.k));
+                print_out(
+                    out,
+                    table::rows(reader.session.plan.n - reader.session.plan.k),
+                );
             }
             true
         }
@@ -156,8 +159,8 @@ fn out_room() -> [u32; 4096]
     [0u32; 4096]
 }
 
-fn line_room() -> [u8; 133]
+fn line_room() -> [u8; frames::text::MOST_LINE]
     ensures { λ r. ⌜ r ≡ replicate mostLine 0 ⌝ }
 {
-    [0u8; 133]
+    [0u8; frames::text::MOST_LINE]
 }

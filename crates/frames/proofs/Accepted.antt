@@ -1,7 +1,7 @@
 -- What an accepted line says of its arguments, kind by kind. Assumes nothing.
 use mathlib.Core.Path.{_≡_, sym, subst}
 use mathlib.Core.Bool.{false}
-use Prim.Native.Nat.{ℕ, _+_, _-_, _^_, _≤_}
+use Prim.Native.Nat.{ℕ, _+_, _-_, _≤_}
 use native.Mathlib.Omega.{arith}
 use mathlib.Core.List.{List}
 use lib.ListN.{length}
@@ -10,6 +10,7 @@ use Rattle.algebra.specs.Words.{unreduced}
 use Rattle.field.specs.Field.{p, Reduced}
 use Rattle.table.specs.Refusals.{most}
 use Rattle.table.proofs.Verdicts.{Numbered, Clear, clear}
+use Rattle.plan.specs.Plan.{capacity}
 use Rattle.frame.specs.declared.Kind.{Kind}
 use Rattle.frame.specs.declared.Kind.the-variants.{Open, Coordinate, Words, Close, NoFrame}
 use Rattle.frame.specs.Frame.{kindOf, variablesOf, coordinatesOf, scaleOf, coordinateOf, wordsOf}
@@ -27,7 +28,7 @@ pub record Opens (bs : List ℕ) : Type 0 where
 -- an `03`
 pub record Feeds (r : Reader) (bs : List ℕ) : Type 0 where
   pub below : unreduced p (wordsOf bs) ≡ false
-  pub within : r .session .taken + length (wordsOf bs) ≤ 2 ^ r .session .n
+  pub within : r .session .taken + length (wordsOf bs) ≤ capacity (r .session .plan)
 
 pub open-clear : (bs : List ℕ) → Clear (openTests bs) → Opens bs
 open-clear bs h =

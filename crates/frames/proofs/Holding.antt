@@ -1,6 +1,6 @@
 -- The loop that puts bytes behind those of a line that are held, at byte i: those before i are there. Assumes nothing.
 use mathlib.Core.Path.{_≡_, sym, ap, _∙_}
-use Prim.Native.Nat.{ℕ, _+_, _-_, _≤_, _<_}
+use Prim.Native.Nat.{ℕ, _+_, _-_, _≤_, _<_, min}
 use native.Mathlib.Decide.{decLe}
 use native.Mathlib.Numerals.{add-one}
 use native.Mathlib.Omega.{arith}
@@ -37,14 +37,14 @@ module _ {was : List ℕ} {used : ℕ} {bytes : List ℕ} {count i : ℕ} {line 
       }
 
   -- as many of the bytes as have room
-  cut : used ≤ mostLine → count ≡ length bytes - (length bytes - (mostLine - used)) → take count bytes ≡ take (mostLine - used) bytes
+  cut : used ≤ mostLine → count ≡ min (length bytes) (mostLine - used) → take count bytes ≡ take (mostLine - used) bytes
   cut u e = go (decLe (length bytes) (mostLine - used))
     where
       go : Dec (length bytes ≤ mostLine - used) → take count bytes ≡ take (mostLine - used) bytes
       go (yes h) = take-all count bytes (omega arith) ∙ sym (take-all (mostLine - used) bytes h)
       go (no h) = let q : count ≡ mostLine - used = omega arith in ap (λ (n : ℕ). take n bytes) q
 
-  pub end : length was ≡ mostLine → used ≤ mostLine → count ≡ length bytes - (length bytes - (mostLine - used)) → count ≤ i
+  pub end : length was ≡ mostLine → used ≤ mostLine → count ≡ min (length bytes) (mostLine - used) → count ≤ i
       → Held was used bytes line (used + count)
   end l u e h =
       let q : i ≡ count = omega (arith, s .within) in

@@ -1,7 +1,7 @@
 -- What every line finds holds before the first line, and an accepted line of each kind keeps it. Assumes nothing.
 use mathlib.Core.Path.{_≡_, refl, sym, ap, subst, _∙_}
 use mathlib.Core.Bool.{Bool, true, false}
-use Prim.Native.Nat.{ℕ, _-_, _*_, _^_, _≤_}
+use Prim.Native.Nat.{ℕ, _*_, _^_, _≤_}
 use native.Mathlib.Omega.{arith}
 use mathlib.Core.List.{List}
 use lib.Dec.{ltb}
@@ -11,10 +11,12 @@ use lib.Seq.{length-take-le}
 use Rattle.algebra.specs.Words.{unreduced}
 use Rattle.algebra.proofs.Words.{unreduced-append, unreduced-drop, unreduced-take, unreduced-zeros}
 use Rattle.field.specs.Field.{p, p-pos, Reduced}
+use Rattle.table.specs.Refusals.{most}
 use Rattle.table.proofs.Laws.{table-length}
 use Rattle.table.proofs.Parts.{unreduced-put}
 use Rattle.table.proofs.Tests.{unreduced-table}
-use Rattle.session.specs.Session.{fed}
+use Rattle.plan.specs.Plan.{places, gainedBy}
+use Rattle.plan.specs.Sound as plan
 use Rattle.frame.specs.declared.Kind.{Kind}
 use Rattle.frame.specs.declared.Kind.the-variants.{Open, Coordinate, Words, Close, NoFrame}
 use Rattle.frame.specs.Frame.{kindOf, indexOf, coordinateOf, wordsOf}
@@ -22,7 +24,7 @@ use Rattle.frames.specs.declared.Phase.{Phase}
 use Rattle.frames.specs.declared.Phase.the-variants.{Done}
 use Rattle.frames.specs.declared.Reader.{Reader}
 use Rattle.frames.specs.Reader.{mostPlaces, lineAnswer, started, opened, noted, counted, taken, used, outBy, Ready}
-use Rattle.frames.specs.Inner.{InLimits, Takes, Adds}
+use Rattle.frames.specs.Inner.{InLimits, Takes}
 use Rattle.frames.proofs.Accepted.{Opens, opens, notes, Feeds, feeds}
 
 -- before the first line, with any out of reduced words
@@ -30,12 +32,14 @@ pub at-start : (out : List ℕ) → length out ≡ 4 * 2 ^ mostPlaces → unredu
 unfolding started unreduced
 at-start out l h =
     record {
-      small = omega arith;
-      fits = omega arith;
+      sound = record {
+        small = omega arith;
+        fits = omega arith;
+        scale-is = record { words-below = refl };
+        coordinates-below = unreduced-zeros p p-pos (4 * most);
+      };
       few = omega arith;
       within = omega arith;
-      scale-is = record { words-below = refl };
-      below = unreduced-zeros p p-pos 80;
       room = l;
       out-below = h;
     }
@@ -46,26 +50,24 @@ at-start-zeros e =
     at-start _ (ap length e ∙ length-replicate {A = ℕ} (4 * 2 ^ mostPlaces) 0) (ap (unreduced p) e ∙ unreduced-zeros p p-pos (4 * 2 ^ mostPlaces))
 
 pub limits : {r : Reader} {out : List ℕ} → Ready r out → InLimits r
-limits d = record { small = d .small; fits = d .fits; within = d .within }
+limits d = record { sound = d .sound; within = d .within }
 
-module _ {r : Reader} {out : List ℕ} (d : Ready r out) where
-  -- the words of out that the session has
-  pub used-fits : used r ≤ length out
-  used-fits = omega (arith, d .room, pow-mono (d .few))
-
-  pub used-length : length (take (used r) out) ≡ used r
-  used-length = length-take-le (used r) out used-fits
+-- the words of out that the session has
+pub used-fits : {r : Reader} {out : List ℕ} → Ready r out → used r ≤ length out
+used-fits d = omega (arith, d .room, pow-mono (d .few))
 
 module _ (r : Reader) (bs out : List ℕ) (d : Ready r out) where
   opened-keeps : Opens bs → Ready (opened bs) (replicate (length out) 0)
   opened-keeps o =
       record {
-        small = o .small;
-        fits = o .fits;
+        sound = record {
+          small = o .small;
+          fits = o .fits;
+          scale-is = o .scale-is;
+          coordinates-below = unreduced-zeros p p-pos (4 * most);
+        };
         few = o .few;
         within = omega arith;
-        scale-is = o .scale-is;
-        below = unreduced-zeros p p-pos 80;
         room = length-replicate {A = ℕ} (length out) 0 ∙ d .room;
         out-below = unreduced-zeros p p-pos (length out);
       }
@@ -74,30 +76,24 @@ module _ (r : Reader) (bs out : List ℕ) (d : Ready r out) where
   same-keeps : (phase : Phase) (given : List ℕ) (beyond : Bool)
       → Ready (record { phase = phase; session = r .session; given = given; beyond = beyond }) out
   same-keeps phase given beyond =
-      record {
-        small = d .small;
-        fits = d .fits;
-        few = d .few;
-        within = d .within;
-        scale-is = d .scale-is;
-        below = d .below;
-        room = d .room;
-        out-below = d .out-below;
-      }
+      record { sound = d .sound; few = d .few; within = d .within; room = d .room; out-below = d .out-below }
 
   noted-keeps : Reduced (coordinateOf bs) → Ready (noted r bs) out
-  noted-keeps e = go (ltb (indexOf bs) (r .session .k)) refl
+  noted-keeps e = go (ltb (indexOf bs) (r .session .plan .k)) refl
     where
-      go : (t : Bool) → ltb (indexOf bs) (r .session .k) ≡ t → Ready (noted r bs) out
+      go : (t : Bool) → ltb (indexOf bs) (r .session .plan .k) ≡ t → Ready (noted r bs) out
       go true q =
+          let s = d .sound in
           rw q
           (record {
-            small = d .small;
-            fits = d .fits;
+            sound = record {
+              small = s .small;
+              fits = s .fits;
+              scale-is = s .scale-is;
+              coordinates-below = unreduced-put (r .session .plan .coordinates) (indexOf bs) e (s .coordinates-below);
+            };
             few = d .few;
             within = d .within;
-            scale-is = d .scale-is;
-            below = unreduced-put (r .session .coordinates) (indexOf bs) e (d .below);
             room = d .room;
             out-below = d .out-below;
           })
@@ -105,34 +101,28 @@ module _ (r : Reader) (bs out : List ℕ) (d : Ready r out) where
 
   counted-keeps : Feeds r bs → Ready (counted r bs) (outBy Words r bs out)
   counted-keeps f =
-      let s = r .session in
-      let new : List ℕ = fed s (wordsOf bs) (take (used r) out) .out in
-      let n : length new ≡ used r = table-length (2 ^ (s .n - s .k)) _ in
+      let plan = r .session .plan in
+      let new : List ℕ = gainedBy plan (r .session .taken) (wordsOf bs) (take (used r) out) in
+      let n : length new ≡ used r = table-length (places plan) _ in
       record {
-        small = d .small;
-        fits = d .fits;
+        sound = d .sound;
         few = d .few;
         within = f .within;
-        scale-is = d .scale-is;
-        below = d .below;
         room = length-append new (drop (used r) out) ∙ omega (arith, n, length-drop (used r) out, used-fits d, d .room);
         out-below =
-            unreduced-append p new (drop (used r) out) (unreduced-table (2 ^ (s .n - s .k)) _)
+            unreduced-append p new (drop (used r) out) (unreduced-table (places plan) _)
             (unreduced-drop p p-pos (used r) out (d .out-below));
       }
 
   -- what an `03` hands to the piece
-  pub adds : lineAnswer r bs ≡ 0 → kindOf bs ≡ Words → Adds (r .session) (wordsOf bs) (take (used r) out)
-  adds a e =
+  pub hands : lineAnswer r bs ≡ 0 → kindOf bs ≡ Words → plan.Takes (r .session .plan) (r .session .taken) (wordsOf bs) (take (used r) out)
+  hands a e =
       let f = feeds r bs a e in
       record {
-        small = d .small;
-        fits = d .fits;
+        sound = d .sound;
         within = f .within;
-        scale-is = d .scale-is;
-        coordinates-below = d .below;
-        words-below = f .below;
-        room = used-length d;
+        piece-below = f .below;
+        room = length-take-le (used r) out (used-fits d);
         out-below = unreduced-take p p-pos (used r) out (d .out-below);
       }
 

@@ -10,12 +10,15 @@ use Rattle.multilinear.specs.declared.Side.{Side}
 use Rattle.multilinear.specs.declared.Side.the-variants.{Prefix}
 use Rattle.multilinear.specs.declared.Weight.{Weight}
 use Rattle.multilinear.specs.declared.Weight.the-variants.{Plain}
-use Rattle.field.specs.Field.{p, Reduced}
+use Rattle.field.specs.Field.{p}
 use Rattle.field.specs.declared.Element.{Element}
 use Rattle.table.specs.Table.{putAt}
 use Rattle.table.specs.Refusals.{answer, Test, _gives_, verdict, leaves, most}
+use Rattle.plan.specs.declared.Plan.{Plan}
+use Rattle.plan.specs.Plan.{planOf, places, capacity, gainedBy}
+use Rattle.plan.specs.Sound.{Sound}
 use Rattle.session.specs.declared.Session.{Session}
-use Rattle.session.specs.Session.{marked, fed}
+use Rattle.session.specs.Session.{sessionOf}
 use Rattle.frame.specs.declared.Kind.{Kind}
 use Rattle.frame.specs.declared.Kind.the-variants as kind
 use Rattle.frame.specs.Frame.{kindOf, sideOf, weightOf, variablesOf, coordinatesOf, scaleOf, indexOf, coordinateOf, wordsOf}
@@ -67,7 +70,7 @@ onceEach (suc k) (c ∷ counts) = eqb c 1 && onceEach k counts
 
 -- 13, at the first `03` or `04`: "coordinates missing, repeated or index at or above k"
 abbrev pub misplaced : Reader → Bool
-misplaced r = isPoints (r .phase) && (r .beyond || not (onceEach (r .session .k) (r .given)))
+misplaced r = isPoints (r .phase) && (r .beyond || not (onceEach (r .session .plan .k) (r .given)))
 
 -- "Then at `01`: 3, 4 (k above n), 5, 3 (n - k over 10)"
 abbrev pub openTests : List ℕ → List Test
@@ -88,7 +91,7 @@ abbrev pub wordsTests : Reader → List ℕ → List Test
 wordsTests r bs =
     misplaced r gives 13
     ∷ unreduced p (wordsOf bs) gives 5
-    ∷ ltb (2 ^ r .session .n) (r .session .taken + length (wordsOf bs)) gives 8
+    ∷ ltb (capacity (r .session .plan)) (r .session .taken + length (wordsOf bs)) gives 8
     ∷ []
 
 abbrev pub closeTests : Reader → List Test
@@ -114,17 +117,7 @@ lineAnswer r bs = verdict (lineTests r bs)
 
 -- a session of these numbers, every coordinate 0 as yet
 abbrev pub sessionBy : ℕ → ℕ → Side → Weight → Element → Session
-sessionBy n k side weight scale =
-    record {
-      n = n;
-      k = k;
-      side = side;
-      weight = weight;
-      scale = scale;
-      coordinates = replicate (4 * most) 0;
-      taken = 0;
-      closed = false;
-    }
+sessionBy n k side weight scale = sessionOf (planOf n k side weight scale []) 0 false
 
 -- before the first line
 unfoldable pub started : Reader
@@ -146,19 +139,14 @@ opened bs =
       beyond = false;
     }
 
--- the same session, with other coordinates
-abbrev pub withCoordinates : Session → List ℕ → Session
-withCoordinates s ws =
-    record {
-      n = s .n;
-      k = s .k;
-      side = s .side;
-      weight = s .weight;
-      scale = s .scale;
-      coordinates = ws;
-      taken = s .taken;
-      closed = s .closed;
-    }
+-- the same plan, with other coordinates
+abbrev pub withCoordinates : Plan → List ℕ → Plan
+withCoordinates plan ws =
+    record { n = plan .n; k = plan .k; side = plan .side; weight = plan .weight; scale = plan .scale; coordinates = ws }
+
+-- the same session, with another coordinate i
+abbrev pub withCoordinate : Session → ℕ → Element → Session
+withCoordinate s i e = sessionOf (withCoordinates (s .plan) (putAt (s .plan .coordinates) i e)) (s .taken) (s .closed)
 
 -- none, once, more than once
 abbrev pub onceMore : ℕ → ℕ
@@ -168,10 +156,10 @@ onceMore (suc c) = 2
 -- at `02`: the coordinate in its place, and that it was given
 abbrev pub noted : Reader → List ℕ → Reader
 noted r bs =
-    cond (ltb (indexOf bs) (r .session .k))
+    cond (ltb (indexOf bs) (r .session .plan .k))
     (record {
       phase = r .phase;
-      session = withCoordinates (r .session) (putAt (r .session .coordinates) (indexOf bs) (coordinateOf bs));
+      session = withCoordinate (r .session) (indexOf bs) (coordinateOf bs);
       given = set (r .given) (indexOf bs) (onceMore (getD (r .given) (indexOf bs) 0));
       beyond = r .beyond;
     })
@@ -182,7 +170,7 @@ abbrev pub counted : Reader → List ℕ → Reader
 counted r bs =
     record {
       phase = phase.Words;
-      session = marked (r .session) (r .session .taken + length (wordsOf bs)) (r .session .closed);
+      session = sessionOf (r .session .plan) (r .session .taken + length (wordsOf bs)) (r .session .closed);
       given = r .given;
       beyond = r .beyond;
     }
@@ -200,12 +188,12 @@ taken kind.NoFrame r bs = r
 
 -- the words of out that the session has: an element for each place
 abbrev pub used : Reader → ℕ
-used r = 4 * 2 ^ (r .session .n - r .session .k)
+used r = 4 * places (r .session .plan)
 
 -- out after a line: zeroed at `01`, and at `03` as the session's feed leaves it
 abbrev pub outBy : Kind → Reader → List ℕ → List ℕ → List ℕ
 outBy kind.Open r bs out = replicate (length out) 0
-outBy kind.Words r bs out = fed (r .session) (wordsOf bs) (take (used r) out) .out ++ drop (used r) out
+outBy kind.Words r bs out = gainedBy (r .session .plan) (r .session .taken) (wordsOf bs) (take (used r) out) ++ drop (used r) out
 outBy kind.Coordinate r bs out = out
 outBy kind.Close r bs out = out
 outBy kind.NoFrame r bs out = out
@@ -223,11 +211,8 @@ outAfter r bs out = leaves (lineAnswer r bs) (outBy (kindOf bs) r bs out) out
 
 -- what every line finds: the state's numbers in their limits, its words and out's below p
 pub record Ready (r : Reader) (out : List ℕ) : Type 0 where
-  pub small : r .session .n ≤ most
-  pub fits : r .session .k ≤ r .session .n
-  pub few : r .session .n - r .session .k ≤ mostPlaces
-  pub within : r .session .taken ≤ 2 ^ r .session .n
-  pub scale-is : Reduced (r .session .scale)
-  pub below : unreduced p (r .session .coordinates) ≡ false
+  pub sound : Sound (r .session .plan)
+  pub few : r .session .plan .n - r .session .plan .k ≤ mostPlaces
+  pub within : r .session .taken ≤ capacity (r .session .plan)
   pub room : length out ≡ 4 * 2 ^ mostPlaces
   pub out-below : unreduced p out ≡ false

@@ -13,14 +13,12 @@ ghost use mathlib.Core.Path.{_≡_};
 ghost use Prim.Native.Nat.{_≤_, _<_};
 ghost use lib.ListN.{length, take, replicate};
 ghost use mathlib.Core.Bool.{not};
-ghost use Rattle.table.specs.Table.{putAt};
-ghost use Rattle.table.specs.Refusals.{answer, verdict};
-ghost use Rattle.session.specs.Session.{fed};
+ghost use Rattle.table.specs.Refusals.{answer, verdict, most};
 ghost use Rattle.frame.specs.declared.Kind.the-variants.{Open, Coordinate, Words, Close};
 ghost use Rattle.frame.specs.Hex.{bytesOf};
 ghost use Rattle.frame.specs.Frame.{byteAt, kindOf, wordsOf};
-ghost use Rattle.frames.specs.Reader.{inPlace, isDone, isPoints, onceMore, withCoordinates, sessionBy, onceEach, misplaced, openTests, coordinateTests, wordsTests, kindTests, lineAnswer, started, opened, noted, counted, taken, outBy, turn, turned, outAfter, Ready};
-ghost use Rattle.frames.specs.Inner.{InLimits, Takes, Alike, Adds, markedAs};
+ghost use Rattle.frames.specs.Reader.{inPlace, isDone, isPoints, onceMore, withCoordinate, sessionBy, onceEach, misplaced, openTests, coordinateTests, wordsTests, kindTests, lineAnswer, started, opened, noted, counted, taken, outBy, turn, turned, outAfter, Ready};
+ghost use Rattle.frames.specs.Inner.{InLimits, Takes, Alike, markedAs};
 
 pub mod text;
 
@@ -35,7 +33,7 @@ pub enum Phase {
 pub struct Reader {
     pub phase: Phase,
     pub session: Session,
-    pub given: [u32; 20],
+    pub given: [u32; table::MOST],
     pub beyond: bool,
 }
 
@@ -235,7 +233,7 @@ fn test_words(reader: Reader, bytes: &[u8]) -> Verdict
 {
     let count = frame::number(bytes, 1);
     let words = words_in(bytes, count);
-    let left = table::rows(reader.session.n) - reader.session.taken;
+    let left = table::rows(reader.session.plan.n) - reader.session.taken;
     Verdict::Accepted
         .refuse_if(lacks_coordinates(reader), Refusal::Coordinates)
         .refuse_if(field::unreduced(&words[..count]), Refusal::Unreduced)
@@ -244,7 +242,6 @@ fn test_words(reader: Reader, bytes: &[u8]) -> Verdict
 
 // 13, at the first `03` or `04`.
 fn lacks_coordinates(reader: Reader) -> bool
-    requires { ⌜ InLimits reader ⌝ }
     ensures { λ r. ⌜ r ≡ misplaced reader ⌝ }
 {
     let phase = reader.phase;
@@ -255,7 +252,7 @@ fn lacks_coordinates(reader: Reader) -> bool
         return true;
     }
     let given = reader.given;
-    !is_once_each(&given, reader.session.k)
+    !is_once_each(&given, reader.session.plan.k)
 }
 
 fn is_once_each(counts: &[u32], k: usize) -> bool
@@ -313,7 +310,7 @@ fn note(reader: Reader, bytes: &[u8]) -> Reader
 {
     let i = frame::number(bytes, 1);
     let mut next = reader;
-    if next.session.k <= i {
+    if next.session.plan.k <= i {
         next.beyond = true;
         return next;
     }
@@ -330,13 +327,15 @@ fn once_more(count: u32) -> u32
 }
 
 fn with_coordinate(s: Session, i: usize, coordinate: Element) -> Session
-    requires { ⌜ i < 20 ⌝ }
-    ensures { λ r. ⌜ r ≡ withCoordinates s (putAt (s .coordinates) i coordinate) ⌝ }
+    requires { ⌜ i < most ⌝ }
+    ensures { λ r. ⌜ r ≡ withCoordinate s i coordinate ⌝ }
 {
-    let mut words = s.coordinates;
+    let mut words = s.plan.coordinates;
     table::put(&mut words, i, coordinate);
+    let mut plan = s.plan;
+    plan.coordinates = words;
     let mut next = s;
-    next.coordinates = words;
+    next.plan = plan;
     next
 }
 
@@ -348,31 +347,11 @@ fn feed(reader: Reader, bytes: &[u8], out: &mut [u32]) -> Reader
 {
     let count = frame::number(bytes, 1);
     let words = words_in(bytes, count);
-    let s = reader.session;
-    let used = 4 * table::rows(s.n - s.k);
-    add(s, &words[..count], &mut out[..used]);
-    mark(reader, Phase::Words, s.taken + count)
-}
-
-fn add(s: Session, words: &[u32], out: &mut [u32])
-    requires { ⌜ Adds s (now words) (now out) ⌝ }
-    ensures { λ _. ⌜ now (out .exit) ≡ fed s (now (words .entry)) (now (out .entry)) .out ⌝ }
-{
-    let side = s.side;
-    let weight = s.weight;
-    let scale = s.scale;
-    let coordinates = s.coordinates;
-    piece::add(
-        side,
-        weight,
-        s.n,
-        s.k,
-        scale,
-        &coordinates,
-        s.taken,
-        words,
-        out,
-    );
+    let taken = reader.session.taken;
+    let plan = reader.session.plan;
+    let used = 4 * table::rows(plan.n - plan.k);
+    piece::add(plan, taken, &words[..count], &mut out[..used]);
+    mark(reader, Phase::Words, taken + count)
 }
 
 fn mark(reader: Reader, phase: Phase, taken: usize) -> Reader
@@ -393,28 +372,18 @@ fn mark(reader: Reader, phase: Phase, taken: usize) -> Reader
 fn session_of(n: usize, k: usize, side: Side, weight: Weight, scale: Element) -> Session
     ensures { λ r. ⌜ r ≡ sessionBy n k side weight scale ⌝ }
 {
+    let none = [0u32; 0];
     Session {
-        n,
-        k,
-        side,
-        weight,
-        scale,
-        coordinates: coordinates_room(),
+        plan: plan::new(n, k, side, weight, scale, &none),
         taken: 0,
         closed: false,
     }
 }
 
-fn coordinates_room() -> [u32; 80]
-    ensures { λ r. ⌜ r ≡ replicate 80 0 ⌝ }
+fn counts() -> [u32; table::MOST]
+    ensures { λ r. ⌜ r ≡ replicate most 0 ⌝ }
 {
-    [0u32; 80]
-}
-
-fn counts() -> [u32; 20]
-    ensures { λ r. ⌜ r ≡ replicate 20 0 ⌝ }
-{
-    [0u32; 20]
+    [0u32; table::MOST]
 }
 
 // The words of an `03`, and zeros behind them.

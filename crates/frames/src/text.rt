@@ -34,7 +34,7 @@ pub fn hold(line: &mut [u8], used: usize, bytes: &[u8]) -> usize
     ensures { λ r. ⌜ Held (now (line .entry)) used (now (bytes .entry)) (now (line .exit)) r ⌝ }
 {
     let room = MOST_LINE - used;
-    let count = table::smaller(bytes.len(), room);
+    let count = table::min(bytes.len(), room);
     for i in 0..count {
         line[used + i] = bytes[i];
     }

@@ -1,6 +1,3 @@
-mod Calls
-mod Giving
 mod Applying
 mod Chaining
-mod Scaling
-mod Counting
+mod Showing

@@ -1,17 +1,15 @@
--- Element operations on lent words. Assumes nothing.
+-- Element operations. Assumes nothing.
 use Prim.Native.Nat.{ℕ}
-use mathlib.Core.Bool.{not}
+use mathlib.Core.Bool.{_||_, cond}
 use mathlib.Core.List.{List, [], _∷_}
 use Rattle.algebra.specs.Ring.{Ops, minus}
 use Rattle.algebra.specs.Words.{wordsOf, unreduced}
 use Rattle.multilinear.specs.Beside.{power}
 use Rattle.field.specs.Field.{p, Ext, field, base, fromWords, at}
 use Rattle.field.specs.declared.Element.{Element}
-use Rattle.table.specs.Table.{getAt}
-use Rattle.table.specs.Refusals.{Test, _gives_, verdict, leaves}
+use Rattle.table.specs.Refusals.{leaves}
 use Rattle.host.specs.declared.elements.Operation.{Operation}
 use Rattle.host.specs.declared.elements.Operation.the-variants.{Add, Sub, Mul, Neg, Double, MulBase, FromBase, MulRepeat}
-use Rattle.host.specs.Answers.{After, after, isFour}
 
 -- the words of a base word as an element
 abbrev pub single : ℕ → List ℕ
@@ -28,20 +26,10 @@ operated MulBase x y = field .mul (fromWords x) (base (at y 0))
 operated FromBase x y = base (at y 0)
 operated (MulRepeat n) x y = field .mul (fromWords x) (power field (fromWords y) n)
 
--- 4: an operand or out is not four words; 5
-abbrev pub elementTests : List ℕ → List ℕ → List ℕ → List Test
-elementTests x y out =
-    not (isFour x) gives 4
-    ∷ not (isFour y) gives 4
-    ∷ not (isFour out) gives 4
-    ∷ unreduced p x gives 5
-    ∷ unreduced p y gives 5
-    ∷ []
-
-unfoldable pub elementAnswer : List ℕ → List ℕ → List ℕ → ℕ
-elementAnswer x y out = verdict (elementTests x y out)
+-- 5: a word of an operand is not below p
+unfoldable pub elementAnswer : List ℕ → List ℕ → ℕ
+elementAnswer x y = cond (unreduced p x || unreduced p y) 5 0
 
 -- the operation on the words x and y: out becomes its element's words
-unfoldable pub applied : Operation → List ℕ → List ℕ → List ℕ → After
-applied o x y out =
-    after (elementAnswer x y out) (leaves (elementAnswer x y out) (wordsOf (operated o (getAt x 0) (getAt y 0))) out ∷ [])
+unfoldable pub elementOut : Operation → List ℕ → List ℕ → List ℕ → List ℕ
+elementOut o x y out = leaves (elementAnswer x y) (wordsOf (operated o (record { c = x }) (record { c = y }))) out

@@ -1,5 +1,2 @@
-pub mod Answers
+pub mod Host
 pub mod Elements
-pub mod Scaled
-pub mod Fixed
-pub mod Inner

@@ -1,15 +1,13 @@
-// Element operations on lent words.
+// Element operations on the words of elements.
 use field::Element;
-use table::Refusal;
-use table::Verdict;
 ghost use mathlib.Core.Path.{_≡_};
-ghost use mathlib.Core.List.{[], _∷_};
 ghost use Rattle.algebra.specs.Ring.{Ops};
 ghost use Rattle.multilinear.specs.Beside.{power};
 ghost use Rattle.field.specs.Field.{field, fromWords, Reduced, Holds};
-ghost use Rattle.table.specs.Refusals.{answer};
-ghost use Rattle.host.specs.Answers.{after};
-ghost use Rattle.host.specs.Elements.{operated, elementAnswer, applied};
+ghost use Rattle.host.specs.Elements.{operated, elementAnswer, elementOut};
+
+// The number of a word that is not below p.
+const UNREDUCED: u32 = 5;
 
 pub enum Operation {
     Add,
@@ -23,29 +21,20 @@ pub enum Operation {
 }
 
 // The operation on the words x and y: out becomes its element's words.
-pub fn apply(operation: Operation, x: &[u32], y: &[u32], out: &mut [u32]) -> u32
-    ensures { λ r. ⌜ after r (now (out .exit) ∷ []) ≡ applied operation (now (x .entry)) (now (y .entry)) (now (out .entry)) ⌝ }
+pub fn apply(operation: Operation, x: &[u32; 4], y: &[u32; 4], out: &mut [u32; 4]) -> u32
+    ensures { λ r. ⌜ r ≡ elementAnswer (now (x .entry)) (now (y .entry)) ⌝ }
+    ensures { λ _. ⌜ now (out .exit) ≡ elementOut operation (now (x .entry)) (now (y .entry)) (now (out .entry)) ⌝ }
 {
-    let tested = test(x, y, out);
-    match tested {
-        Verdict::Refused(_) => tested.answer(),
-        Verdict::Accepted => {
-            let e = element(operation, table::get(x, 0), table::get(y, 0));
-            table::put(out, 0, e);
-            0
-        }
+    if field::unreduced(x) {
+        return UNREDUCED;
     }
-}
-
-fn test(x: &[u32], y: &[u32], out: &[u32]) -> Verdict
-    ensures { λ r. ⌜ answer r ≡ elementAnswer (now (x .entry)) (now (y .entry)) (now (out .entry)) ⌝ }
-{
-    Verdict::Accepted
-        .refuse_if(x.len() != 4, Refusal::Lengths)
-        .refuse_if(y.len() != 4, Refusal::Lengths)
-        .refuse_if(out.len() != 4, Refusal::Lengths)
-        .refuse_if(field::unreduced(x), Refusal::Unreduced)
-        .refuse_if(field::unreduced(y), Refusal::Unreduced)
+    if field::unreduced(y) {
+        return UNREDUCED;
+    }
+    let e = element(operation, Element { c: *x }, Element { c: *y });
+    let words = e.c;
+    *out = words;
+    0
 }
 
 fn element(operation: Operation, x: Element, y: Element) -> Element

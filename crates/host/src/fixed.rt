@@ -1,84 +1,86 @@
-// Fixing a variable: the count of entries that remain is one word. A call asks first that it is, and that r is four words.
-use crate::answers;
+// Fixing a variable: the count of entries that remain is lent.
+use field::Element;
 use fixing::Remaining;
+use table::Verdict;
 ghost use mathlib.Core.Path.{_≡_};
 ghost use mathlib.Core.List.{[], _∷_};
-ghost use lib.ListN.{length};
 ghost use Rattle.fixing.specs.declared.Rule.the-variants.{Prefix, Suffix, Monomial};
-ghost use Rattle.fixing.specs.Fixing.{remainingOutcome};
-ghost use Rattle.host.specs.Answers.{after};
-ghost use Rattle.host.specs.Fixed.{fixed, summed};
-ghost use Rattle.host.specs.Inner.{countOut};
+ghost use Rattle.fixing.specs.Fixing.{remainingOutcome, fixAnswer, fixOut, sumAnswer, sumOut};
+ghost use Rattle.host.specs.Host.{elementOf, answered, shown};
 
 #[no_mangle]
-pub extern "C" fn host_fix_prefix_var_mut(r: &[u32], table: &mut [u32], out: &mut [u32]) -> u32
-    ensures { λ x. ⌜ after x (now (table .exit) ∷ now (out .exit) ∷ [])
-        ≡ fixed Prefix (now (r .entry)) (now (table .entry)) (now (out .entry)) ⌝ }
+pub extern "C" fn host_fix_prefix_var_mut(
+    r0: u32,
+    r1: u32,
+    r2: u32,
+    r3: u32,
+    table: &mut [u32],
+    count: &mut usize,
+) -> u32
+    ensures { λ _. ⌜ now (table .exit) ≡ fixOut Prefix (now (table .entry)) (elementOf r0 r1 r2 r3) ⌝ }
+    ensures { λ r. ⌜ answered r (now (count .exit) ∷ [])
+        ≡ shown (fixAnswer (now (table .entry)) (elementOf r0 r1 r2 r3)) (now (count .entry) ∷ []) ⌝ }
 {
-    if r.len() != 4 {
-        return answers::LENGTHS;
-    }
-    if out.len() != 1 {
-        return answers::LENGTHS;
-    }
-    give_count(fixing::fix_prefix_var_mut(table, table::get(r, 0)), out)
+    let r = Element {
+        c: [r0, r1, r2, r3],
+    };
+    give_count(fixing::fix_prefix_var_mut(table, r), count)
 }
 
 #[no_mangle]
-pub extern "C" fn host_fix_suffix_var_mut(r: &[u32], table: &mut [u32], out: &mut [u32]) -> u32
-    ensures { λ x. ⌜ after x (now (table .exit) ∷ now (out .exit) ∷ [])
-        ≡ fixed Suffix (now (r .entry)) (now (table .entry)) (now (out .entry)) ⌝ }
+pub extern "C" fn host_fix_suffix_var_mut(
+    r0: u32,
+    r1: u32,
+    r2: u32,
+    r3: u32,
+    table: &mut [u32],
+    count: &mut usize,
+) -> u32
+    ensures { λ _. ⌜ now (table .exit) ≡ fixOut Suffix (now (table .entry)) (elementOf r0 r1 r2 r3) ⌝ }
+    ensures { λ r. ⌜ answered r (now (count .exit) ∷ [])
+        ≡ shown (fixAnswer (now (table .entry)) (elementOf r0 r1 r2 r3)) (now (count .entry) ∷ []) ⌝ }
 {
-    if r.len() != 4 {
-        return answers::LENGTHS;
-    }
-    if out.len() != 1 {
-        return answers::LENGTHS;
-    }
-    give_count(fixing::fix_suffix_var_mut(table, table::get(r, 0)), out)
+    let r = Element {
+        c: [r0, r1, r2, r3],
+    };
+    give_count(fixing::fix_suffix_var_mut(table, r), count)
 }
 
 #[no_mangle]
 pub extern "C" fn host_fix_prefix_var_mut_monomial(
-    r: &[u32],
+    r0: u32,
+    r1: u32,
+    r2: u32,
+    r3: u32,
     table: &mut [u32],
-    out: &mut [u32],
+    count: &mut usize,
 ) -> u32
-    ensures { λ x. ⌜ after x (now (table .exit) ∷ now (out .exit) ∷ [])
-        ≡ fixed Monomial (now (r .entry)) (now (table .entry)) (now (out .entry)) ⌝ }
+    ensures { λ _. ⌜ now (table .exit) ≡ fixOut Monomial (now (table .entry)) (elementOf r0 r1 r2 r3) ⌝ }
+    ensures { λ r. ⌜ answered r (now (count .exit) ∷ [])
+        ≡ shown (fixAnswer (now (table .entry)) (elementOf r0 r1 r2 r3)) (now (count .entry) ∷ []) ⌝ }
 {
-    if r.len() != 4 {
-        return answers::LENGTHS;
-    }
-    if out.len() != 1 {
-        return answers::LENGTHS;
-    }
-    give_count(
-        fixing::fix_prefix_var_mut_monomial(table, table::get(r, 0)),
-        out,
-    )
+    let r = Element {
+        c: [r0, r1, r2, r3],
+    };
+    give_count(fixing::fix_prefix_var_mut_monomial(table, r), count)
 }
 
 #[no_mangle]
-pub extern "C" fn host_sum_prefix_var_mut(table: &mut [u32], out: &mut [u32]) -> u32
-    ensures { λ x. ⌜ after x (now (table .exit) ∷ now (out .exit) ∷ []) ≡ summed (now (table .entry)) (now (out .entry)) ⌝ }
+pub extern "C" fn host_sum_prefix_var_mut(table: &mut [u32], count: &mut usize) -> u32
+    ensures { λ _. ⌜ now (table .exit) ≡ sumOut (now (table .entry)) ⌝ }
+    ensures { λ r. ⌜ answered r (now (count .exit) ∷ []) ≡ shown (sumAnswer (now (table .entry))) (now (count .entry) ∷ []) ⌝ }
 {
-    if out.len() != 1 {
-        return answers::LENGTHS;
-    }
-    give_count(fixing::sum_prefix_var_mut(table), out)
+    give_count(fixing::sum_prefix_var_mut(table), count)
 }
 
 // 0 and the count, or the refusal's number.
-fn give_count(remaining: Remaining, out: &mut [u32]) -> u32
-    requires { ⌜ length (now out) ≡ 1 ⌝ }
-    ensures { λ r. ⌜ r ≡ remainingOutcome remaining .number ⌝ }
-    ensures { λ _. ⌜ now (out .exit) ≡ countOut (remainingOutcome remaining) (now (out .entry)) ⌝ }
+fn give_count(remaining: Remaining, count: &mut usize) -> u32
+    ensures { λ r. ⌜ answered r (now (count .exit) ∷ []) ≡ shown (remainingOutcome remaining) (now (count .entry) ∷ []) ⌝ }
 {
     match remaining {
-        Remaining::Refused(refusal) => answers::number(refusal),
+        Remaining::Refused(refusal) => Verdict::Refused(refusal).answer(),
         Remaining::Entries(n) => {
-            out[0] = (n % 4294967296) as u32;
+            *count = n;
             0
         }
     }

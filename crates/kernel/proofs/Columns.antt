@@ -1,16 +1,27 @@
--- Two products with base words gained, and four, coordinate by coordinate. Assumes nothing.
+-- One product with a base word gained, two, and four, coordinate by coordinate. Assumes nothing.
 use mathlib.Core.Path.{_≡_, ap, _∙_}
+use mathlib.Core.List.{[], _∷_}
 use Prim.Native.Nat.{ℕ, _+_, _*_, _%_}
 use Rattle.algebra.specs.Ring.{Ops, CommRing}
 use Rattle.algebra.specs.Residue.{reduce}
 use Rattle.algebra.specs.Words.{wordsOf, numbers}
-use Rattle.field.specs.Field.{p, p-pos, Ext, field, base, toWords, fromWords, at, Reduced}
+use Rattle.field.specs.Field.{p, p-pos, Ext, field, base, toWords, fromWords, at, Reduced, Holds}
 use Rattle.field.specs.declared.Element.{Element}
-use Rattle.field.proofs.Laws.{field-ring, word-below}
+use Rattle.field.proofs.Laws.{field-ring, word-below, holds}
+use Rattle.field.proofs.Multiples.{numbers-gain}
 use Rattle.kernel.specs.declared.steps.Four.{Four}
 use Rattle.kernel.specs.Kernel.{twoProducts, fourProducts}
 use Rattle.kernel.specs.Inner.{Small, column, plusProducts}
-use Rattle.kernel.proofs.Settling.{words, numbers-gain}
+
+-- the element of four words
+abbrev pub words : ℕ → ℕ → ℕ → ℕ → Element
+words a0 a1 a2 a3 = record { c = a0 ∷ a1 ∷ a2 ∷ a3 ∷ [] }
+
+pub gain-law : (x e : Element) (w : ℕ)
+    → words ((at x 0 + at e 0 * w) % p) ((at x 1 + at e 1 * w) % p) ((at x 2 + at e 2 * w) % p) ((at x 3 + at e 3 * w) % p)
+    ≡ toWords (field .add (fromWords x) (field .mul (fromWords e) (base w)))
+unfolding toWords wordsOf fromWords numbers reduce
+gain-law x e w = ap toWords (numbers-gain (at x 0) (at x 1) (at x 2) (at x 3) (at e 0) (at e 1) (at e 2) (at e 3) w)
 
 abbrev product : Element → ℕ → Ext
 product w n = field .mul (fromWords w) (base n)
@@ -37,10 +48,10 @@ regroup : (x a b c d : Ext)
 regroup x a b c d = simp (field-ring .add-assoc)
 
 module _ (w0 w1 w2 w3 : Element) where
-  pub small-column : Reduced w0 → Reduced w1 → Reduced w2 → Reduced w3 → (k : ℕ) → Small (column w0 w1 w2 w3 k)
+  pub small-column : Reduced w0 → Reduced w1 → Reduced w2 → Reduced w3 → (k : ℕ) {c : Four} → c ≡ column w0 w1 w2 w3 k → Small c
   unfolding column
-  small-column h0 h1 h2 h3 k =
-      record { small0 = word-below h0 k; small1 = word-below h1 k; small2 = word-below h2 k; small3 = word-below h3 k }
+  small-column h0 h1 h2 h3 k e =
+      rw e (record { small0 = word-below h0 k; small1 = word-below h1 k; small2 = word-below h2 k; small3 = word-below h3 k })
 
   module _ (x : Element) (f : Four) where
     -- coordinate k of x, with its products
@@ -56,7 +67,11 @@ module _ (w0 w1 w2 w3 : Element) where
         (numbers-two w0 w1 (f .x0) (f .x1) (at x 0) (at x 1) (at x 2) (at x 3))
         ∙ regroup (fromWords x) (product w0 (f .x0)) (product w1 (f .x1)) (product w2 (f .x2)) (product w3 (f .x3))
 
-    pub four-law : words (coordinate 0 % p) (coordinate 1 % p) (coordinate 2 % p) (coordinate 3 % p)
-        ≡ toWords (field .add (fromWords x) (fourProducts (fromWords w0) (fromWords w1) (fromWords w2) (fromWords w3) (f .x0) (f .x1) (f .x2) (f .x3)))
+    -- of the columns and the residues that the calls give
+    pub four-law : {c0 c1 c2 c3 : Four} {r0 r1 r2 r3 : ℕ}
+        → c0 ≡ column w0 w1 w2 w3 0 → r0 ≡ plusProducts (at x 0) c0 f % p → c1 ≡ column w0 w1 w2 w3 1 → r1 ≡ plusProducts (at x 1) c1 f % p
+        → c2 ≡ column w0 w1 w2 w3 2 → r2 ≡ plusProducts (at x 2) c2 f % p → c3 ≡ column w0 w1 w2 w3 3 → r3 ≡ plusProducts (at x 3) c3 f % p
+        → Holds (words r0 r1 r2 r3)
+        (field .add (fromWords x) (fourProducts (fromWords w0) (fromWords w1) (fromWords w2) (fromWords w3) (f .x0) (f .x1) (f .x2) (f .x3)))
     unfolding toWords wordsOf numbers reduce
-    four-law = ap toWords numbers-four
+    four-law e0 q0 e1 q1 e2 q2 e3 q3 = holds _ (rw (q0, q1, q2, q3, e0, e1, e2, e3) (ap toWords numbers-four))

@@ -1,5 +1,1 @@
-mod Summing
-mod FewWords
-mod Settling
-mod Pairing
 mod Columns

@@ -1,33 +1,14 @@
--- What the inner loops take and give. No operation that users call cites it. Assumes nothing.
+-- What the additions to out take and give. No operation that users call cites it. Assumes nothing.
 use mathlib.Core.Path.{_≡_}
 use mathlib.Core.Bool.{false}
-use Prim.Native.Nat.{ℕ, _+_, _*_, _≤_, _^_}
+use Prim.Native.Nat.{ℕ, _+_, _*_, _≤_}
 use mathlib.Core.List.{List}
 use lib.ListN.{length, getD}
 use Rattle.algebra.specs.Ring.{Ops}
 use Rattle.algebra.specs.Words.{unreduced}
 use Rattle.field.specs.Field.{p, Ext, field, base, fromWords}
 use Rattle.field.specs.declared.Element.{Element}
-use Rattle.table.specs.Refusals.{most}
-
--- the words of the largest table
-abbrev pub mostWords : ℕ
-mostWords = 2 ^ most
-
--- a weight for each of at most so many words, all reduced
-pub record Dots (weights words : List ℕ) : Type 0 where
-  pub size : length weights ≡ 4 * length words
-  pub few : length words ≤ mostWords
-  pub weights-below : unreduced p weights ≡ false
-  pub words-below : unreduced p words ≡ false
-
--- n weights and n entries of a table of elements, at most so many, all reduced
-pub record Pairs (n : ℕ) (weights entries : List ℕ) : Type 0 where
-  pub few : n ≤ mostWords
-  pub weights-there : 4 * n ≤ length weights
-  pub entries-there : 4 * n ≤ length entries
-  pub weights-below : unreduced p weights ≡ false
-  pub entries-below : unreduced p entries ≡ false
+use Rattle.kernel.specs.declared.Weights.{Weights}
 
 -- a row of reduced words, and an element of out for each, from place `from` on
 pub record Row (from : ℕ) (out words : List ℕ) : Type 0 where
@@ -58,3 +39,19 @@ abbrev pub fourRows : Element → Element → Element → Element → ℕ → Li
 fourRows w0 w1 w2 w3 n words y =
     fourProducts (fromWords w0) (fromWords w1) (fromWords w2) (fromWords w3) (getD words y 0) (getD words (n + y) 0) (getD words (2 * n + y) 0)
     (getD words (3 * n + y) 0)
+
+-- reduced words, k for each of n elements of out from place `from` on
+pub record Groups (k from n : ℕ) (out words : List ℕ) : Type 0 where
+  pub room : 4 * (from + n) ≤ length out
+  pub there : k * n ≤ length words
+  pub words-below : unreduced p words ≡ false
+
+-- two words, each times its weight
+abbrev pub twoWords : Element → Element → List ℕ → ℕ → Ext
+twoWords w0 w1 words i = twoProducts (fromWords w0) (fromWords w1) (getD words (2 * i) 0) (getD words (2 * i + 1) 0)
+
+-- four words, each times its weight
+abbrev pub fourWords : Weights → List ℕ → ℕ → Ext
+fourWords w words i =
+    fourProducts (fromWords (w .w0)) (fromWords (w .w1)) (fromWords (w .w2)) (fromWords (w .w3)) (getD words (4 * i) 0)
+    (getD words (4 * i + 1) 0) (getD words (4 * i + 2) 0) (getD words (4 * i + 3) 0)

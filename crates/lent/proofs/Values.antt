@@ -22,7 +22,7 @@ use denote.Enum.Laws as enum
 use Rattle.table.specs.declared.Verdict.{Verdict}
 use Rattle.table.proofs.Verdict as verdict
 use Rattle.table.proofs.Verdict.Laws as verdict′
-use Rattle.session.specs.Session.{marked}
+use Rattle.session.specs.Session.{sessionOf}
 use Rattle.session.specs.declared.Session.{Session}
 use Rattle.session.specs.declared.Settled.{Settled}
 use Rattle.session.proofs.Session as session
@@ -114,16 +114,15 @@ settled-made v s is is-s =
 
 -- a session's words taken may be stored
 pub taken-typed : (s : Session) → SessionIs s → Fits (tyInt w64) (vint w64 (s .taken))
-taken-typed s is = (tt, record { fits = struct.owed session.the-type session′.the-laws s _ is .1 .1 .1 .1 .1 .1 .0 .1 })
+taken-typed s is = (tt, record { fits = struct.owed session.the-type session′.the-laws s _ is .1 .0 .1 })
 
--- a session with the words taken of a second and the mark of a third
-pub marked-is : (s t u : Session) → SessionIs s → SessionIs t → SessionIs u → SessionIs (marked s (t .taken) (u .closed))
-marked-is s t u is-s is-t is-u =
+-- a session's plan with the words taken of a second and the mark of a third
+pub session-made : (s t u : Session) → SessionIs s → SessionIs t → SessionIs u → SessionIs (sessionOf (s .plan) (t .taken) (u .closed))
+session-made s t u is-s is-t is-u =
     let a = struct.owed session.the-type session′.the-laws s _ is-s in
-    let b = struct.owed session.the-type session′.the-laws t _ is-t .1 .1 .1 .1 .1 .1 .0 in
-    let c = struct.owed session.the-type session′.the-laws u _ is-u .1 .1 .1 .1 .1 .1 .1 in
-    struct.owes session.the-type session′.the-laws (marked s (t .taken) (u .closed))
-    (a .0, (a .1 .0, (a .1 .1 .0, (a .1 .1 .1 .0, (a .1 .1 .1 .1 .0, (a .1 .1 .1 .1 .1 .0, (b, c)))))))
+    let b = struct.owed session.the-type session′.the-laws t _ is-t in
+    let c = struct.owed session.the-type session′.the-laws u _ is-u in
+    struct.owes session.the-type session′.the-laws (sessionOf (s .plan) (t .taken) (u .closed)) (a .0, (b .1 .0, c .1 .1))
 
 module _ {M : Type 1} {𝓤 : URA M} {H : Heap 𝓤} {A : Atoms 𝓤} (W : Given 𝓤 H A) where
   pub session-typed : (s : Session) → SessionIs s → Fits session-mir (sessionVal s)

@@ -22,7 +22,7 @@ use Rattle.multilinear.specs.Equality.{eqAt}
 use Rattle.multilinear.specs.Successors.{lastRow, shiftedAt}
 use Rattle.multilinear.specs.Values.{valueAt, nextValueAt}
 use Rattle.multilinear.specs.Folds.{wordOf, foldAt}
-use Rattle.multilinear.specs.Inner.{weightBy, movedAt}
+use Rattle.multilinear.specs.Inner.{movedAt}
 use Rattle.multilinear.specs.Laws.{FoldLaws}
 use Rattle.multilinear.proofs.Halves.{sum-scaled}
 use Rattle.multilinear.proofs.Successors.{next-gains}
@@ -96,18 +96,21 @@ module _ {ℓ} {R : Type ℓ} {O : Ops R} (𝓡 : CommRing O) where
   moved-value side skip inner zs scale f i h e =
       sym (sum-scaled 𝓡 (2 ^ length zs) _ _ scale (λ y b. mul-assoc _ _ _)) ∙ moved-ext side skip inner zs scale f i h e
 
-  pub moved-is : (side : Side) (skip inner : ℕ) (zs : List R) (scale : R) (f : ℕ → R) (i : ℕ) → skip ≤ 1
-      → movedAt O side skip inner zs scale f i ≡ foldAt O side (weightBy skip) inner zs scale f i
+  pub moved-plain : (side : Side) (inner : ℕ) (zs : List R) (scale : R) (f : ℕ → R) (i : ℕ)
+      → movedAt O side 0 inner zs scale f i ≡ foldAt O side Plain inner zs scale f i
   unfolding foldAt
-  moved-is side zero inner zs scale f i h =
+  moved-plain side inner zs scale f i =
       sym (moved-ext side 0 inner zs scale f i _ (λ y b. rw (Nat·add-zero y, lt-ltb y (2 ^ length zs) b)))
-  moved-is side (suc zero) inner zs scale f i h =
+
+  pub moved-shifted : (side : Side) (inner : ℕ) (zs : List R) (scale : R) (f : ℕ → R) (i : ℕ)
+      → movedAt O side 1 inner zs scale f i ≡ foldAt O side Shifted inner zs scale f i
+  unfolding foldAt
+  moved-shifted side inner zs scale f i =
       let past : 2 ^ length zs ≤ lastRow O zs + 1 = omega (arith, pow-pos (length zs)) in
       sym
       (shifted-moves zs scale _ (λ y. cond (ltb (y + 1) (2 ^ length zs)) (f (wordOf side inner (2 ^ length zs) i (y + 1))) 𝟘)
       (λ y b. rw (add-one y, lt-ltb (suc y) (2 ^ length zs) b)) (rw (le-ltb (lastRow O zs + 1) (2 ^ length zs) past))
       ∙ moved-ext side 1 inner zs scale f i _ (λ y b. refl))
-  moved-is side (suc (suc skip)) inner zs scale f i h = absurd (omega arith)
 
   pub next-value-moved : (zs : List R) (f h : ℕ → R) → ((y : ℕ) → suc y < 2 ^ length zs → h y ≡ f (suc y)) → h (lastRow O zs) ≡ 𝟘
       → nextValueAt O zs f ≡ valueAt O zs h ⊕ eqAt O zs (lastRow O zs) ⊗ f (lastRow O zs)

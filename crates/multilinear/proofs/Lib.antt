@@ -6,5 +6,6 @@ pub mod Vertex
 pub mod Successors
 pub mod Select
 pub mod Values
+pub mod Rows
 pub mod Folds
 pub mod Weighed

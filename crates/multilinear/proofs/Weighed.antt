@@ -8,7 +8,6 @@ use mathlib.Core.Bool.{cond}
 use mathlib.Core.List.{List, [], _∷_}
 use lib.Dec.{ltb}
 use lib.ListN.{length}
-use lib.Pow.{pow-pos}
 use borrow.Author.Tests.{lt-ltb, le-ltb}
 use Rattle.algebra.specs.Ring.{Ops, CommRing, minus}
 use Rattle.algebra.specs.Sum.{sumTo}
@@ -22,11 +21,11 @@ use Rattle.multilinear.specs.declared.Weight.the-variants.{Plain, Shifte
 use Rattle.multilinear.specs.Equality.{eqAt}
 use Rattle.multilinear.specs.Successors.{lastRow}
 use Rattle.multilinear.specs.Folds.{wordOf, foldAt}
-use Rattle.multilinear.specs.Inner.{movedAt, skipOf, lastOf, weighedAt}
+use Rattle.multilinear.specs.Inner.{movedAt, skipOf, ownAt}
 use Rattle.multilinear.specs.Laws.{FoldLaws}
 use Rattle.multilinear.proofs.Equality.{eq-low, eq-high}
 use Rattle.multilinear.proofs.Halves.{sum-halves}
-use Rattle.multilinear.proofs.Folds.{word-is-row, fold-laws, moved-is, moved-ext}
+use Rattle.multilinear.proofs.Folds.{word-is-row, fold-laws, moved-plain, moved-shifted, moved-ext}
 
 module _ {ℓ} {R : Type ℓ} {O : Ops R} (𝓡 : CommRing O) where
   open CommRing 𝓡 using (add-zero, mul-one)
@@ -38,18 +37,19 @@ module _ {ℓ} {R : Type ℓ} {O : Ops R} (𝓡 : CommRing O) where
   abbrev _⊝_ : R → R → R
   _⊝_ = minus O
 
-  -- nothing beside the last row
+  -- no weight of its own
   none-beside : (x y : R) → x ⊕ 𝟘 ⊗ y ≡ x
   none-beside x y = ap (λ e. x ⊕ e) (zero-mul 𝓡 y) ∙ add-zero x
 
-  pub weighed-is : (side : Side) (weight : Weight) (inner : ℕ) (zs : List R) (scale : R) (f : ℕ → R) (i : ℕ)
-      → weighedAt O side (skipOf weight) (lastOf O weight zs scale) inner zs scale f i ≡ foldAt O side weight inner zs scale f i
-  unfolding weighedAt
-  weighed-is side Plain inner zs scale f i = none-beside _ _ ∙ moved-is 𝓡 side 0 inner zs scale f i (omega arith)
-  weighed-is side Shifted inner zs scale f i = none-beside _ _ ∙ moved-is 𝓡 side 1 inner zs scale f i (omega arith)
-  weighed-is side Next inner zs scale f i =
+  -- a fold is the rows that are moved on, and the row with a weight of its own
+  pub moved-own : (side : Side) (weight : Weight) (inner : ℕ) (zs : List R) (scale : R) (f : ℕ → R) (i : ℕ)
+      → movedAt O side (skipOf weight) inner zs scale f i ⊕ ownAt O side weight inner zs scale f i ≡ foldAt O side weight inner zs scale f i
+  unfolding ownAt
+  moved-own side Plain inner zs scale f i = none-beside _ _ ∙ moved-plain 𝓡 side inner zs scale f i
+  moved-own side Shifted inner zs scale f i = none-beside _ _ ∙ moved-shifted 𝓡 side inner zs scale f i
+  moved-own side Next inner zs scale f i =
       let last = f (wordOf side inner (2 ^ length zs) i (lastRow O zs)) in
-      ap (λ e. e ⊕ scale ⊗ eqAt O zs (lastRow O zs) ⊗ last) (moved-is 𝓡 side 1 inner zs scale f i (omega arith))
+      ap (λ e. e ⊕ scale ⊗ eqAt O zs (lastRow O zs) ⊗ last) (moved-shifted 𝓡 side inner zs scale f i)
       ∙ sym (fold-laws 𝓡 .next side inner zs scale f i)
 
   -- with one place a row both sides are the same
@@ -63,12 +63,6 @@ module _ {ℓ} {R : Type ℓ} {O : Ops R} (𝓡 : CommRing O) where
       sum-ext 𝓡 (2 ^ length zs) _ _
       (λ y h.
       ap (λ n. scale ⊗ eqAt O zs y ⊗ cond (ltb (y + skip) (2 ^ length zs)) (f n) 𝟘) (same-word side (2 ^ length zs) (y + skip)))
-
-  pub sides-agree : (side : Side) (skip : ℕ) (last : R) (zs : List R) (scale : R) (f : ℕ → R)
-      → weighedAt O side skip last 1 zs scale f 0 ≡ weighedAt O Suffix skip last 1 zs scale f 0
-  unfolding weighedAt
-  sides-agree side skip last zs scale f =
-      ap₂ (λ x n. x ⊕ last ⊗ f n) (moved-agree side skip zs scale f) (same-word side (2 ^ length zs) (lastRow O zs))
 
   -- a prefix fold of the rows' two halves
   pub fold-step : (inner : ℕ) (z : R) (zs : List R) (w : R) (f : ℕ → R) (i : ℕ)
@@ -115,16 +109,11 @@ module _ {ℓ} {R : Type ℓ} {O : Ops R} (𝓡 : CommRing O) where
   fold-moved skip inner zs scale f g i e = moved-ext 𝓡 Prefix skip inner zs scale f i (λ y. g (y * inner + i)) e
 
   -- a place whose words are all 0
-  pub weighed-none : (side : Side) (skip : ℕ) (last : R) (inner : ℕ) (zs : List R) (scale : R) (f : ℕ → R) (i : ℕ)
-      → ((y : ℕ) → y < 2 ^ length zs → f (wordOf side inner (2 ^ length zs) i y) ≡ 𝟘)
-      → weighedAt O side skip last inner zs scale f i ≡ 𝟘
-  unfolding weighedAt
-  weighed-none side skip last inner zs scale f i e =
-      ap₂ (λ x v. x ⊕ last ⊗ v)
-      (sym (moved-ext 𝓡 side skip inner zs scale f i (λ y. 𝟘) (λ y b. row y (decLt (y + skip) (2 ^ length zs))))
-      ∙ sum-ext 𝓡 (2 ^ length zs) _ _ (λ y b. mul-zero 𝓡 _) ∙ sum-none 𝓡 (2 ^ length zs))
-      (e (lastRow O zs) (omega (arith, pow-pos (length zs))))
-      ∙ zero-add 𝓡 _ ∙ mul-zero 𝓡 last
+  pub moved-none : (side : Side) (skip inner : ℕ) (zs : List R) (scale : R) (f : ℕ → R) (i : ℕ)
+      → ((y : ℕ) → y < 2 ^ length zs → f (wordOf side inner (2 ^ length zs) i y) ≡ 𝟘) → movedAt O side skip inner zs scale f i ≡ 𝟘
+  moved-none side skip inner zs scale f i e =
+      sym (moved-ext 𝓡 side skip inner zs scale f i (λ y. 𝟘) (λ y b. row y (decLt (y + skip) (2 ^ length zs))))
+      ∙ sum-ext 𝓡 (2 ^ length zs) _ _ (λ y b. mul-zero 𝓡 _) ∙ sum-none 𝓡 (2 ^ length zs)
     where
       row : (y : ℕ) → Dec (y + skip < 2 ^ length zs)
           → 𝟘 ≡ cond (ltb (y + skip) (2 ^ length zs)) (f (wordOf side inner (2 ^ length zs) i (y + skip))) 𝟘

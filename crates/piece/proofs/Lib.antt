@@ -1,8 +1,8 @@
-pub mod Scattering
-pub mod WholeRows
-pub mod RowByRow
-pub mod PlaceSums
-pub mod PlaceByPlace
-pub mod LastRows
-mod BySide
-pub mod Joining
+mod Adding
+mod Scattering
+mod WholeRows
+mod RowByRow
+mod PlaceSums
+mod PlaceByPlace
+pub mod Fronts
+mod BySection

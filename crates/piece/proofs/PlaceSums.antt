@@ -1,239 +1,180 @@
--- What one place gains: its words of the piece from row `skip` on, and its last row's word. Assumes nothing.
+-- What one place gains: its words of the piece against a block's table, or against the weights of its rows. Assumes nothing.
 use mathlib.Core.Path.{_≡_, refl, sym, ap, _∙_}
-use mathlib.Core.Bool.{cond}
-use Prim.Native.Nat.{ℕ, _+_, _-_, _*_, _^_, _≤_, _<_}
+use mathlib.Core.Bool.{Bool, true, false, cond}
+use Prim.Native.Nat.{ℕ, zero, suc, _+_, _-_, _*_, _^_, _≤_, _<_}
 use native.Mathlib.Decide.{decLt}
 use native.Mathlib.Omega.{arith}
 use mathlib.Core.List.{List}
 use lib.Dec.{ltb}
-use lib.ListN.{length, getD, take, drop}
-use lib.Pow.{pow-pos}
+use lib.ListN.{length, take, drop}
 use borrow.Author.Tests.{lt-ltb, le-ltb}
-use Rattle.algebra.specs.Ring.{Ops, CommRing}
+use Rattle.algebra.specs.Ring.{Ops}
+use Rattle.algebra.specs.Sum.{sumTo}
+use Rattle.algebra.proofs.Ring.{zero-add, mul-zero}
 use Rattle.algebra.proofs.Sums.{sum-ext}
+use Rattle.multilinear.specs.declared.Side.the-variants.{Suffix}
+use Rattle.multilinear.specs.Equality.{eqAt}
+use Rattle.multilinear.specs.declared.Weight.{Weight}
+use Rattle.multilinear.specs.declared.Weight.the-variants.{Plain, Shifted}
+use Rattle.multilinear.specs.Folds.{weightAt, foldAt}
+use Rattle.multilinear.specs.Inner.{movedAt}
 use Rattle.multilinear.specs.Values.{valueAt}
-use Rattle.multilinear.proofs.Values.{value-ext}
+use Rattle.multilinear.proofs.Folds.{moved-value, moved-plain, moved-shifted}
 use Rattle.field.specs.Field.{Ext, field, base, fromWords, Holds}
 use Rattle.field.specs.declared.Element.{Element}
-use Rattle.field.proofs.Laws.{field-ring, read-as}
+use Rattle.field.proofs.Laws.{field-ring, base-zero, read-as}
 use Rattle.table.specs.Table.{elementAt, elements, placed}
-use Rattle.table.specs.Refusals.{most}
-use Rattle.table.proofs.Parts.{after, after-is, part-length, part-below}
-use Rattle.table.proofs.Placed.{placed-word, placed-after, placed-take, placed-further, further-fits}
-use Rattle.weigh.specs.Weigh.{Parts, blockSum}
-use Rattle.weigh.proofs.WordParts.{absent}
-use Rattle.piece.specs.Inner.{Places, placeSum}
+use Rattle.table.proofs.Laws.{elements-length}
+use Rattle.table.proofs.Parts.{after-is, part-length}
+use Rattle.table.proofs.Placed.{placed-after, placed-take, placed-further}
+use Rattle.kernel.specs.declared.Weights.{Weights}
+use Rattle.kernel.specs.Kernel.{twoProducts, fourProducts}
+use Rattle.weigh.specs.Weigh.{Block, blockSum}
+use Rattle.weigh.proofs.Weighing.{weighed-words}
+use Rattle.piece.specs.declared.places.Span.{Span}
+use Rattle.piece.specs.Inner.{Cuts, weightOf, Weighed}
 
--- words from `start` to before `stop`, where the piece reaches `stop`: as many as there are between
-whole : (taken start stop a b from : ℕ) → start ≤ stop → taken < stop → a ≡ start - taken → b ≡ stop - taken → from ≡ taken + a - start
-    → from + (b - a) ≡ stop - start
-whole taken start stop a b from o h ca cb q = go (decLt taken start)
-  where
-    go : Dec (taken < start) → from + (b - a) ≡ stop - start
-    go (yes k) = omega (arith, ca, cb, q)
-    go (no k) = omega (arith, ca, cb, q)
+base-cond : (b : Bool) (x : ℕ) → base (cond b x 0) ≡ cond b (base x) (field .zero)
+base-cond true x = refl
+base-cond false x = base-zero
 
--- the least of two numbers, where it is known which
-least-first : (l m : ℕ) {c : ℕ} → c ≡ l - (l - m) → l ≤ m → c ≡ l
-least-first l m e h = omega (arith, e)
+module _ {taken l start stop : ℕ} {t : Span} (c : Cuts taken l start stop t) where
+  pub cut-order : (t .a ≤ t .b) × (t .b ≤ l)
+  cut-order = (omega (arith, c .order, c .a-is, c .b-is), omega (arith, c .b-is))
 
-least-second : (l m : ℕ) {c : ℕ} → c ≡ l - (l - m) → m ≤ l → c ≡ m
-least-second l m e h = omega (arith, e)
+  ends : t .from + t .b + start ≤ stop + t .a
+  ends = omega (arith, c .order, c .begun, c .a-is, c .b-is, c .from-is)
+
+  -- a word that is not there
+  past : (y : ℕ) → start + y < stop → t .from + t .b ≤ y + t .a → taken + l ≤ start + y
+  past y h k = omega (arith, c .a-is, c .b-is, c .from-is)
+
+  as-least : t .a ≡ l - (l - (start - taken))
+  as-least = omega (arith, c .a-is)
+
+  as-place : t .from ≡ taken + t .a - start
+  as-place = omega (arith, c .a-is, c .from-is)
 
 not-lt : {m n : ℕ} → (m < n → ⊥) → n ≤ m
 not-lt h = omega arith
 
-further : (taken : ℕ) {start stop : ℕ} → start ≤ stop → start - taken ≤ stop - taken
-further taken h = omega arith
+module _ {a b : ℕ} (h : a ≤ b) where
+  lent : {l : ℕ} → b ≤ l → a + (b - a) ≤ l
+  lent k = omega arith
 
-reaches : (taken l : ℕ) {stop : ℕ} → taken + l < stop → l ≤ stop - taken
-reaches taken l h = omega arith
+  less : (from n : ℕ) → from + b ≤ n + a → from + (b - a) ≤ n
+  less from n k = omega arith
 
-up-to : {a b l : ℕ} → (a ≤ b) × (b ≤ l) → a + (b - a) ≤ l
-up-to h = omega (arith, h .0, h .1)
+  more : (from n : ℕ) → from + (b - a) ≤ n → from + b ≤ n + a
+  more from n k = omega arith
 
--- row y of a place from word o on, of which the first `skip` rows are left out
-module _ (o skip rows y : ℕ) {n m : ℕ} (c : n ≡ o + rows - (o + skip)) (r : rows ≡ m) where
-  row-inside : y + skip < m → y < n
-  row-inside h = omega (arith, r)
+module _ (i rows skip taken : ℕ) (piece : List ℕ) {t : Span} (c : Cuts taken (length piece) (i * rows + skip) (i * rows + rows) t) where
+  abbrev words : List ℕ
+  words = take (t .b - t .a) (drop (t .a) piece)
 
-  row-outside : m ≤ y + skip → n ≤ y
-  row-outside h = omega (arith, r)
+  count : length words ≡ t .b - t .a
+  count = part-length (t .a) (t .b - t .a) piece (lent (cut-order c .0) (cut-order c .1))
 
-  rows-within : n ≤ m
-  rows-within = omega (arith, r)
+  -- a row that is not there
+  none-from : (y : ℕ) → t .from + t .b ≤ y + t .a → placed (t .from) words y ≡ 0
+  none-from y h = placed-after (t .from) words y (rw count (less (cut-order c .0) (t .from) y h))
 
-between : (taken start l stop : ℕ) → start ≤ stop → stop ≤ taken + l → (start - taken ≤ l) × (stop - taken ≤ l)
-between taken start l stop o h = (omega arith, omega arith)
+  pub cut-fits : t .from + length words ≤ rows
+  cut-fits = let e = ends c in rw count (less (cut-order c .0) (t .from) rows (omega (arith, e)))
 
-least-le : (l m n : ℕ) {a b : ℕ} → a ≡ l - (l - m) → b ≡ l - (l - n) → m ≤ n → (a ≤ b) × (b ≤ l)
-least-le l m n {a} {b} ea eb h = (go (decLt l n), omega (arith, eb))
-  where
-    go : Dec (l < n) → a ≤ b
-    go (yes k) = let q : b ≡ l = least-first l n eb (omega arith) in omega (arith, ea, q)
-    go (no k) =
-        let q : b ≡ n = least-second l n eb (omega arith) in
-        let r : a ≡ m = least-second l m ea (omega arith) in
-        omega (arith, r, q)
+  -- row y of place i, whose rows from `skip` on they are
+  pub cut-row : (y : ℕ) → placed (t .from) words y ≡ cond (ltb (y + skip) rows) (placed taken piece (i * rows + (y + skip))) 0
+  cut-row y = go (decLt (y + skip) rows) (decLt y (t .from + (t .b - t .a)))
+    where
+      same : placed taken piece (i * rows + skip + y) ≡ placed taken piece (i * rows + (y + skip))
+      same = ap (placed taken piece) (omega arith)
 
-module _ {i skip k low taken : ℕ} {last : Element} {point block piece : List ℕ}
-    (s : Places i skip last k low point block taken piece) {rows : ℕ} (r : rows ≡ 2 ^ k) where
-  abbrev start : ℕ
-  start = i * rows + skip
+      go : Dec (y + skip < rows) → Dec (y < t .from + (t .b - t .a))
+          → placed (t .from) words y ≡ cond (ltb (y + skip) rows) (placed taken piece (i * rows + (y + skip))) 0
+      go (yes h) (yes k) =
+          rw (lt-ltb (y + skip) rows h)
+          (placed-take (t .from) (t .b - t .a) (drop (t .a) piece) y k
+          ∙ ap (λ ws. placed (t .from) ws y) (sym (after-is (t .a) piece))
+          ∙ placed-further (i * rows + skip) taken piece (t .a) (t .from) (as-least c) (as-place c) y ∙ same)
+      go (yes h) (no k) =
+          let far = more (cut-order c .0) (t .from) y (not-lt k) in
+          let l : i * rows + skip + y < i * rows + rows = omega (arith, h) in
+          rw (lt-ltb (y + skip) rows h)
+          (none-from y far ∙ sym (placed-after taken piece (i * rows + skip + y) (past c y l far)) ∙ same)
+      go (no h) _ =
+          let e = ends c in
+          rw (le-ltb (y + skip) rows (not-lt h)) (none-from y (omega (arith, e, not-lt h)))
 
-  abbrev stop : ℕ
-  stop = i * rows + rows
+module _ (k : ℕ) (point : List ℕ) (scale : Ext) (inner skip : ℕ) (word : ℕ → ℕ) (i : ℕ) where
+  abbrev zs : List Ext
+  zs = elements point 0 k
 
-  same-place : i * rows ≡ i * 2 ^ k
-  same-place = ap (λ n. i * n) r
+  rows-are : 2 ^ length zs ≡ 2 ^ k
+  rows-are = ap (λ n. 2 ^ n) (elements-length point 0 k)
 
-  order : start ≤ stop
-  order = omega (arith, s .one, r, pow-pos k)
+  abbrev moved : Ext
+  moved = movedAt field Suffix skip inner zs scale (λ t. base (word t)) i
 
-  pub stop-fits : stop ≤ 2 ^ most
-  stop-fits = omega (arith, same-place, r, s .few)
+  -- the place's words against a block's table
+  pub block-sum : {low : ℕ} {block : List ℕ} → low ≤ k → Block (k - low) low point scale block → (row : ℕ → ℕ)
+      → ((y : ℕ) → row y ≡ cond (ltb (y + skip) (2 ^ k)) (word (i * 2 ^ k + (y + skip))) 0)
+      → valueAt field (elements point 0 (k - low)) (blockSum low block row) ≡ moved
+  block-sum {low} {block} h b row e =
+      weighed-words h b row
+      ∙ moved-value field-ring Suffix skip inner zs scale (λ t. base (word t)) i (λ y. base (row y))
+      (λ y c. ap base (e y) ∙ base-cond (ltb (y + skip) (2 ^ k)) (word (i * 2 ^ k + (y + skip)))
+      ∙ ap (λ n. cond (ltb (y + skip) n) (base (word (i * n + (y + skip)))) (field .zero)) (sym rows-are))
 
-  pub start-fits : start ≤ 2 ^ most
-  start-fits = omega (arith, order, stop-fits)
+  -- and against the weights of the rows, where the block has them all
+  module _ (block : List ℕ) (one : skip ≤ 1) (holds : (y : ℕ) → y < 2 ^ k → elementAt block y ≡ field .mul scale (eqAt field zs y)) where
+    rows-sum : (weight : Weight) (s : ℕ) → ((y : ℕ) → y < 2 ^ k → weightOf block s y ≡ field .mul scale (weightAt field weight zs y))
+        → sumTo field (2 ^ k) (λ y. field .mul (weightOf block s y) (base (word (i * 2 ^ k + y))))
+        ≡ foldAt field Suffix weight inner zs scale (λ t. base (word t)) i
+    unfolding foldAt
+    rows-sum weight s e =
+        sum-ext field-ring (2 ^ k) _ _ (λ y h. ap (λ w. field .mul w (base (word (i * 2 ^ k + y)))) (e y h))
+        ∙ ap (λ n. sumTo field n (λ y. field .mul (field .mul scale (weightAt field weight zs y)) (base (word (i * n + y))))) (sym rows-are)
 
-  pub few-words : length piece ≤ 2 ^ most
-  few-words = omega (arith, s .within)
+    own-weight : (y : ℕ) → y < 2 ^ k → weightOf block 0 y ≡ field .mul scale (weightAt field Plain zs y)
+    unfolding weightOf
+    own-weight y h = let q : y - 0 ≡ y = omega arith in rw (le-ltb y 0 (omega arith), q) (holds y h)
 
-  reached : taken < stop
-  reached = omega (arith, same-place, r, s .reached)
+    weight-before : (y : ℕ) → y < 2 ^ k → weightOf block 1 y ≡ field .mul scale (weightAt field Shifted zs y)
+    unfolding weightOf
+    weight-before zero h = sym (mul-zero field-ring scale)
+    weight-before (suc y) h = let q : suc y - 1 ≡ y = omega arith in rw (le-ltb (suc y) 1 (omega arith), q) (holds y (omega arith))
 
-  -- row y of the place
-  abbrev row : ℕ → ℕ
-  row y = cond (ltb (y + skip) (2 ^ k)) (placed taken piece (i * 2 ^ k + (y + skip))) 0
+    pub row-sum : sumTo field (2 ^ k) (λ y. field .mul (weightOf block skip y) (base (word (i * 2 ^ k + y)))) ≡ moved
+    row-sum = go skip one
+      where
+        go : (s : ℕ) → s ≤ 1
+            → sumTo field (2 ^ k) (λ y. field .mul (weightOf block s y) (base (word (i * 2 ^ k + y))))
+            ≡ movedAt field Suffix s inner zs scale (λ t. base (word t)) i
+        go zero l = rows-sum Plain 0 own-weight ∙ sym (moved-plain field-ring Suffix inner zs scale (λ t. base (word t)) i)
+        go (suc zero) l = rows-sum Shifted 1 weight-before ∙ sym (moved-shifted field-ring Suffix inner zs scale (λ t. base (word t)) i)
+        go (suc (suc s)) l = absurd (omega arith)
 
-  row-there : (y : ℕ) → y + skip < 2 ^ k → row y ≡ placed taken piece (start + y)
-  row-there y h =
-      let e : i * 2 ^ k + (y + skip) ≡ start + y = omega (arith, same-place) in
-      rw (lt-ltb (y + skip) (2 ^ k) h) (ap (placed taken piece) e)
+-- two products, and four
+module _ (f : ℕ → Ext) where
+  two-sum : field .add (f 0) (f 1) ≡ sumTo field 2 f
+  unfolding sumTo
+  two-sum = ap (λ x. field .add x (f 1)) (sym (zero-add field-ring (f 0)))
 
-  row-past : (y : ℕ) → 2 ^ k ≤ y + skip → row y ≡ 0
-  row-past y h = rw (le-ltb (y + skip) (2 ^ k) h)
+  four-sum : field .add (field .add (field .add (f 0) (f 1)) (f 2)) (f 3) ≡ sumTo field 4 f
+  unfolding sumTo
+  four-sum = ap (λ x. field .add (field .add x (f 2)) (f 3)) two-sum
 
-  last-past : {t : ℕ} → t < stop → t ≤ i * 2 ^ k + (2 ^ k - 1)
-  last-past h = omega (arith, same-place, r)
+module _ (block : List ℕ) (skip : ℕ) (x : ℕ → ℕ) where
+  abbrev term : ℕ → Ext
+  term y = field .mul (weightOf block skip y) (base (x y))
 
-  last-at : {b : ℕ} → b ≡ stop - taken → (1 ≤ b) × (i * 2 ^ k + (2 ^ k - 1) ≡ taken + (b - 1))
-  last-at e = (omega (arith, reached), omega (arith, same-place, r, reached, pow-pos k))
+  pub two-words : {w0 w1 : Element} → Holds w0 (weightOf block skip 0) → Holds w1 (weightOf block skip 1)
+      → twoProducts (fromWords w0) (fromWords w1) (x 0) (x 1) ≡ sumTo field 2 term
+  unfolding twoProducts
+  two-words h0 h1 = rw (read-as _ h0, read-as _ h1) (two-sum term)
 
-  row-far : {t : ℕ} (y : ℕ) → t < stop → 2 ^ k ≤ y + skip → t ≤ start + y
-  row-far y h l = omega (arith, r)
-
-  near-start : {t : ℕ} → t < stop → t ≤ start + 2 ^ k
-  near-start h = omega (arith, r)
-
-  module _ {a b from : ℕ} (ca : a ≡ length piece - (length piece - (start - taken)))
-      (cb : b ≡ length piece - (length piece - (stop - taken))) (q : from ≡ taken + a - start) where
-    pub in-order : (a ≤ b) × (b ≤ length piece)
-    in-order = least-le (length piece) (start - taken) (stop - taken) ca cb (further taken order)
-
-    abbrev words : List ℕ
-    words = take (b - a) (drop a piece)
-
-    count : length words ≡ b - a
-    count = part-length a (b - a) piece (up-to in-order)
-
-    module _ (h : taken + length piece < stop) where
-      short-words : words ≡ after a piece
-      short-words =
-          ap (λ n. take (n - a) (drop a piece)) (least-first (length piece) (stop - taken) cb (reaches taken (length piece) h))
-
-      short-within : from + length words ≤ 2 ^ k
-      short-within = rw short-words (further-fits start taken piece a from ca q (2 ^ k) (near-start h))
-
-      short-row : (y : ℕ) → placed from words y ≡ row y
-      short-row y =
-          ap (λ ws. placed from ws y) short-words ∙ placed-further start taken piece a from ca q y
-          ∙ go (decLt (y + skip) (2 ^ k))
-        where
-          go : Dec (y + skip < 2 ^ k) → placed taken piece (start + y) ≡ row y
-          go (yes l) = sym (row-there y l)
-          go (no l) =
-              let past = not-lt l in
-              placed-after taken piece (start + y) (row-far y h past) ∙ sym (row-past y past)
-
-    module _ (h : stop ≤ taken + length piece) where
-      at-start : a ≡ start - taken
-      at-start = least-second (length piece) (start - taken) ca (between taken start (length piece) stop order h .0)
-
-      pub at-stop : b ≡ stop - taken
-      at-stop = least-second (length piece) (stop - taken) cb (between taken start (length piece) stop order h .1)
-
-      long-count : from + (b - a) ≡ stop - start
-      long-count = whole taken start stop a b from order reached at-start at-stop q
-
-      long-within : from + length words ≤ 2 ^ k
-      long-within = rw count (rows-within (i * rows) skip rows 0 long-count r)
-
-      long-row : (y : ℕ) → placed from words y ≡ row y
-      long-row y = go (decLt (y + skip) (2 ^ k))
-        where
-          go : Dec (y + skip < 2 ^ k) → placed from words y ≡ row y
-          go (yes l) =
-              placed-take from (b - a) (drop a piece) y (row-inside (i * rows) skip rows y long-count r l)
-              ∙ ap (λ ws. placed from ws y) (sym (after-is a piece)) ∙ placed-further start taken piece a from ca q y ∙ sym (row-there y l)
-          go (no l) =
-              let past = not-lt l in
-              placed-after from words y (rw count (row-outside (i * rows) skip rows y long-count r past)) ∙ sym (row-past y past)
-
-    within : Dec (taken + length piece < stop) → from + length words ≤ 2 ^ k
-    within (yes h) = short-within h
-    within (no h) = long-within (not-lt h)
-
-    pub part-fits : Parts 0 (k - low) low from point words block
-    part-fits =
-        let e : 0 + (k - low) + low ≡ k = omega (arith, s .low-fits) in
-        let f : k - low + low ≡ k = omega (arith, s .low-fits) in
-        record {
-          point-is = rw e (s .point-is);
-          fits = rw f (within (decLt (taken + length piece) stop));
-          words-below = part-below a (b - a) piece (s .piece-below);
-          small = s .small;
-          room = s .block-room;
-          below = s .block-below;
-        }
-
-    abbrev us : List Ext
-    us = elements point 0 (k - low)
-
-    same-rows : ((y : ℕ) → placed from words y ≡ row y)
-        → valueAt field us (blockSum low block (placed from words)) ≡ valueAt field us (blockSum low block row)
-    unfolding blockSum
-    same-rows e =
-        value-ext field-ring us _ _
-        (λ m c. sum-ext field-ring (2 ^ low) _ _
-        (λ l d. ap (λ v. field .mul (elementAt block l) (base v)) (e (m * 2 ^ low + l))))
-
-    abbrev sum : Ext
-    sum = valueAt field us (blockSum low block row)
-
-    with-last : {v : ℕ} → placed taken piece (i * 2 ^ k + (2 ^ k - 1)) ≡ v
-        → field .add sum (field .mul (fromWords last) (base v)) ≡ placeSum i skip (fromWords last) k low point block taken piece
-    unfolding placeSum
-    with-last e = ap (λ v. field .add sum (field .mul (fromWords last) (base v))) (sym e)
-
-    -- the last row's word is not in the piece
-    short-is : taken + length piece < stop
-        → valueAt field us (blockSum low block (placed from words)) ≡ placeSum i skip (fromWords last) k low point block taken piece
-    short-is h =
-        same-rows (short-row h) ∙ sym (field-ring .add-zero sum) ∙ ap (field .add sum) (sym (absent (fromWords last) refl))
-        ∙ with-last (placed-after taken piece _ (last-past h))
-
-    pub short-sum : taken + length piece < stop → {x : Element} → Holds x (valueAt field us (blockSum low block (placed from words)))
-        → Holds x (placeSum i skip (fromWords last) k low point block taken piece)
-    short-sum h d = rw (short-is h) at d
-
-    -- it is
-    pub last-word : stop ≤ taken + length piece → (1 ≤ b) × (placed taken piece (i * 2 ^ k + (2 ^ k - 1)) ≡ getD piece (b - 1) 0)
-    last-word h =
-        let at = last-at (at-stop h) in
-        (at .0, ap (placed taken piece) (at .1) ∙ placed-word taken piece (b - 1))
-
-    pub long-sum : stop ≤ taken + length piece → {x y z : Element} → Holds x (valueAt field us (blockSum low block (placed from words)))
-        → Holds y (field .mul (fromWords last) (base (getD piece (b - 1) 0))) → Holds z (field .add (fromWords x) (fromWords y))
-        → Holds z (placeSum i skip (fromWords last) k low point block taken piece)
-    long-sum h dx dy dz = rw (read-as _ dx, read-as _ dy, same-rows (long-row h), with-last (last-word h .1)) at dz
+  pub four-words : {w : Weights} → Weighed block skip w
+      → fourProducts (fromWords (w .w0)) (fromWords (w .w1)) (fromWords (w .w2)) (fromWords (w .w3)) (x 0) (x 1) (x 2) (x 3)
+      ≡ sumTo field 4 term
+  unfolding fourProducts
+  four-words h = rw (read-as _ (h .at0), read-as _ (h .at1), read-as _ (h .at2), read-as _ (h .at3)) (four-sum term)

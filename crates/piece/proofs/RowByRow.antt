@@ -1,77 +1,102 @@
--- A piece added row by row: the rows from `skip` on, and the last row once more. Assumes nothing.
-use mathlib.Core.Path.{_≡_, sym, ap, _∙_}
+-- The rows of a piece from `skip` on, scattered. Assumes nothing.
+use mathlib.Core.Path.{_≡_, ap, _∙_}
 use mathlib.Core.Bool.{cond}
-use Prim.Native.Nat.{ℕ, _+_, _-_, _*_, _^_, _≤_, _<_}
+use Prim.Native.Nat.{ℕ, min, _+_, _-_, _*_, _^_, _≤_, _<_}
 use native.Mathlib.Decide.{decLt}
-use native.Mathlib.Nat.{zero-add, add-mul, mul-le-mul-right}
+use native.Mathlib.Nat.{add-mul, mul-le-mul-right}
 use native.Mathlib.Omega.{arith}
 use mathlib.Core.List.{List}
 use lib.Dec.{ltb}
-use lib.ListN.{length, getD}
+use lib.ListN.{length}
 use lib.Pow.{pow-pos}
 use borrow.Author.Tests.{lt-ltb, le-ltb}
 use Rattle.algebra.specs.Ring.{Ops}
 use Rattle.multilinear.specs.declared.Side.the-variants.{Prefix}
-use Rattle.multilinear.specs.Successors.{lastRow}
-use Rattle.multilinear.specs.Inner.{movedAt, weighedAt}
+use Rattle.multilinear.specs.declared.Weight.{Weight}
+use Rattle.multilinear.specs.declared.Weight.the-variants.{Plain, Shifted, Next}
+use Rattle.multilinear.specs.Equality.{eqAt}
+use Rattle.multilinear.specs.Folds.{foldAt}
+use Rattle.multilinear.specs.Inner.{skipOf, movedAt}
 use Rattle.multilinear.proofs.Weighed.{fold-moved}
 use Rattle.field.specs.Field.{Ext, field, base, fromWords}
-use Rattle.field.specs.declared.Element.{Element}
 use Rattle.field.proofs.Laws.{field-ring, base-zero}
-use Rattle.table.specs.Table.{elements, placed}
-use Rattle.table.specs.Inner.{Gained}
+use Rattle.table.specs.Table.{tableWords, elements, entries, placed}
+use Rattle.table.specs.Gained.{Gained}
 use Rattle.table.specs.Refusals.{most}
 use Rattle.table.proofs.Laws.{elements-length}
-use Rattle.table.proofs.Gaining.{gained-as, added}
+use Rattle.table.proofs.Gaining.{gained-as}
 use Rattle.table.proofs.Parts.{after, after-below}
 use Rattle.table.proofs.Placed.{placed-after, placed-further, further-fits}
-use Rattle.kernel.specs.Kernel.{Row}
-use Rattle.piece.specs.Inner.{Adds, Scatters}
-use Rattle.piece.proofs.Scattering.{scattered, row-gained}
+use Rattle.piece.specs.declared.Terms.{Terms}
+use Rattle.piece.specs.Inner.{Adds, movedBy, Scatters, Scattered}
 
-module _ {skip k inner taken : ℕ} {last scale : Element} {point piece out : List ℕ}
-    (a : Adds skip last k inner scale point taken piece out) where
+-- at most one row
+one : (weight : Weight) → skipOf weight ≤ 1
+one Plain = omega arith
+one Shifted = omega arith
+one Next = omega arith
+
+module _ {taken : ℕ} {terms : Terms} {point piece out : List ℕ} (a : Adds terms point taken piece out) {skip : ℕ}
+    (is : skip ≡ skipOf (terms .weight)) where
+  abbrev inner : ℕ
+  inner = terms .inner
+
   abbrev zs : List Ext
-  zs = elements point 0 k
+  zs = elements point 0 (terms .k)
 
   abbrev word : ℕ → Ext
   word t = base (placed taken piece t)
 
-  rows-are : 2 ^ length zs ≡ 2 ^ k
-  rows-are = ap (λ n. 2 ^ n) (elements-length point 0 k)
+  pub count : entries point ≡ terms .k
+  count = omega (arith, a .count)
 
-  one-row : inner ≤ 2 ^ k * inner
-  one-row = let m : 1 * inner ≤ 2 ^ k * inner = mul-le-mul-right inner (pow-pos k) in omega arith
+  pub places : entries out ≡ inner
+  places = omega (arith, a .room)
 
   pub first-fits : skip * inner ≤ 2 ^ most
-  first-fits = let m : skip * inner ≤ 1 * inner = mul-le-mul-right inner (a .one) in omega (arith, one-row, a .small)
+  first-fits =
+      let m : skip * inner ≤ 1 * inner = mul-le-mul-right inner (rw is (one (terms .weight))) in
+      let n : 1 * inner ≤ 2 ^ terms .k * inner = mul-le-mul-right inner (pow-pos (terms .k)) in
+      omega (arith, a .small)
 
-  -- the rows from `skip` on
-  module _ {early from : ℕ} (c : early ≡ length piece - (length piece - (skip * inner - taken)))
-      (q : from ≡ taken + early - skip * inner) where
-    pub first-scatters : Scatters 0 k from inner point scale (after early piece) out
-    first-scatters =
+  -- the table of a block
+  pub block-made : {block : List ℕ} → block ≡ tableWords 16 (eqAt field (elements point (terms .k - 4) 4)) → (b : ℕ) → b + 4 ≡ entries point
+      → block ≡ tableWords 16 (eqAt field (elements point b 4))
+  block-made e b q =
+      let s : terms .k - 4 ≡ b = omega (arith, count) in
+      e ∙ ap (λ n. tableWords 16 (eqAt field (elements point n 4))) s
+
+  module _ {early from : ℕ} (c : early ≡ min (length piece) (skip * inner - taken)) (q : from ≡ taken + early - skip * inner) where
+    c′ : early ≡ length piece - (length piece - (skip * inner - taken))
+    c′ = omega (arith, c)
+
+    pub first-scatters : {block : List ℕ}
+        → (length block ≡ 64 → (b : ℕ) → b + 4 ≡ entries point → block ≡ tableWords 16 (eqAt field (elements point b 4)))
+        → Scatters from point (terms .scale) block (after early piece) out
+    first-scatters table =
+        let w : from + length (after early piece) ≤ 2 ^ terms .k * inner =
+        further-fits (skip * inner) taken piece early from c′ q (2 ^ terms .k * inner) (omega (arith, a .within)) in
         record {
-          some = a .some;
-          small = a .small;
-          point-is = rw zero-add (a .point-is);
+          rest-is = rw count (a .point-is);
           weight-is = a .scale-is;
-          within = further-fits (skip * inner) taken piece early from c q (2 ^ k * inner) (omega (arith, a .within));
+          block-is = table;
+          small = rw (count, places) (a .small);
+          within = rw (count, places) w;
           below = after-below early piece (a .piece-below);
-          room = a .room;
+          room = omega (arith, a .room);
           out-below = a .out-below;
         }
 
-    moved : (y : ℕ) → scattered 0 k from inner point (fromWords scale) (after early piece) y
-        ≡ movedAt field Prefix skip inner zs (fromWords scale) word y
+    moved : (y : ℕ) → foldAt field Prefix Plain inner zs (fromWords (terms .scale)) (λ t. base (placed from (after early piece) t)) y
+        ≡ movedAt field Prefix skip inner zs (fromWords (terms .scale)) word y
     moved y =
-        fold-moved field-ring skip inner zs (fromWords scale) word (λ t. base (placed from (after early piece) t)) y
+        fold-moved field-ring skip inner zs (fromWords (terms .scale)) word (λ t. base (placed from (after early piece) t)) y
         (λ r b. go r (decLt (r + skip) (2 ^ length zs)))
       where
         at : (r : ℕ) → placed from (after early piece) (r * inner + y) ≡ placed taken piece ((r + skip) * inner + y)
         at r =
             let e : skip * inner + (r * inner + y) ≡ (r + skip) * inner + y = omega (arith, add-mul r skip inner) in
-            placed-further (skip * inner) taken piece early from c q (r * inner + y) ∙ ap (placed taken piece) e
+            placed-further (skip * inner) taken piece early from c′ q (r * inner + y) ∙ ap (placed taken piece) e
 
         go : (r : ℕ) → Dec (r + skip < 2 ^ length zs)
             → base (placed from (after early piece) (r * inner + y))
@@ -80,41 +105,13 @@ module _ {skip k inner taken : ℕ} {last scale : Element} {point piece out : Li
         go r (no h) =
             let k : 2 ^ length zs ≤ r + skip = omega arith in
             let m : 2 ^ length zs * inner ≤ (r + skip) * inner = mul-le-mul-right inner k in
-            let past = rw rows-are at m in
+            let past = rw (elements-length point 0 (terms .k)) at m in
             rw (le-ltb (r + skip) (2 ^ length zs) k)
             (ap base (at r ∙ placed-after taken piece _ (omega (arith, past, a .within))) ∙ base-zero)
 
-    -- and the last row
-    module _ {rows : ℕ} (r : rows ≡ 2 ^ k) where
-      all-rows : (rows - 1) * inner + inner ≡ 2 ^ k * inner
-      all-rows =
-          let e : rows - 1 + 1 ≡ 2 ^ k = omega (arith, r, pow-pos k) in
-          let d : (rows - 1 + 1) * inner ≡ (rows - 1) * inner + 1 * inner = add-mul (rows - 1) 1 inner in
-          let f : (rows - 1 + 1) * inner ≡ 2 ^ k * inner = ap (λ n. n * inner) e in
-          omega arith
-
-      pub own-fits : (rows - 1) * inner ≤ 2 ^ most
-      own-fits = omega (arith, all-rows, a .small)
-
-      module _ {cut place : ℕ} (e : cut ≡ length piece - (length piece - ((rows - 1) * inner - taken)))
-          (f : place ≡ taken + cut - (rows - 1) * inner) where
-        last-within : place + length (after cut piece) ≤ inner
-        last-within = further-fits ((rows - 1) * inner) taken piece cut place e f inner (omega (arith, all-rows, a .within))
-
-        pub last-row-fits : {g : ℕ → Ext} {w : List ℕ} → Gained 0 inner g out w → Row place w (after cut piece)
-        last-row-fits d =
-            record { room = omega (arith, last-within, d .len, a .room); words-below = after-below cut piece (a .piece-below) }
-
-        pub rows-added : {w w′ : List ℕ}
-            → Gained 0 inner (scattered 0 k from inner point (fromWords scale) (after early piece)) out w
-            → Gained place (length (after cut piece)) (λ y. field .mul (fromWords last) (base (getD (after cut piece) y 0))) w w′
-            → Gained 0 inner (weighedAt field Prefix skip (fromWords last) inner zs (fromWords scale) word) out w′
-        unfolding weighedAt
-        rows-added d0 d1 =
-            let n : rows - 1 ≡ lastRow field zs = ap (λ m. m - 1) (r ∙ sym rows-are) in
-            gained-as _
-            (added d0 (row-gained place (after cut piece) (fromWords last) d1 (d0 .below (a .out-below)) last-within))
-            (λ y h.
-            ap (λ x. field .add x (field .mul (fromWords last) (base (placed place (after cut piece) y)))) (moved y)
-            ∙ ap (λ v. field .add (movedAt field Prefix skip inner zs (fromWords scale) word y) (field .mul (fromWords last) (base v)))
-            (placed-further ((rows - 1) * inner) taken piece cut place e f y ∙ ap (λ m. placed taken piece (m * inner + y)) n))
+    pub rows-added : {w : List ℕ} → Scattered from point (terms .scale) (after early piece) out w
+        → Gained 0 inner (movedBy Prefix terms point taken piece) out w
+    unfolding movedBy
+    rows-added d =
+        gained-as _ (rw (count, places) at d)
+        (λ y h. moved y ∙ ap (λ n. movedAt field Prefix n inner zs (fromWords (terms .scale)) word y) is)

@@ -1,27 +1,45 @@
--- Four whole rows, by the weights that two coordinates make. Assumes nothing.
+-- Whole rows: two and four by the weights that one and two coordinates make, sixteen by a block's table. Assumes nothing.
 use mathlib.Core.Path.{_≡_, sym, ap, ap₂, _∙_}
-use Prim.Native.Nat.{ℕ, _+_, _-_, _*_, _^_}
-use native.Mathlib.Numerals.{add-one}
+use mathlib.Core.Bool.{false}
+use Prim.Native.Nat.{ℕ, _+_, _-_, _*_, _^_, _≤_, _<_}
+use native.Mathlib.Nat.{add-mul, mul-le-mul-right}
 use native.Mathlib.Omega.{arith}
 use mathlib.Core.List.{List, [], _∷_}
-use lib.ListN.{length}
+use lib.ListN.{length, getD}
 use Rattle.algebra.specs.Ring.{Ops, CommRing, minus}
+use Rattle.algebra.specs.Sum.{sumTo}
+use Rattle.algebra.specs.Words.{unreduced}
+use Rattle.algebra.proofs.Ring.{zero-add}
+use Rattle.algebra.proofs.Sums.{sum-ext, sum-split}
 use Rattle.multilinear.specs.declared.Side.the-variants.{Prefix}
 use Rattle.multilinear.specs.declared.Weight.the-variants.{Plain}
+use Rattle.multilinear.specs.Equality.{eqAt}
 use Rattle.multilinear.specs.Folds.{foldAt}
 use Rattle.multilinear.proofs.Weighed.{fold-step, fold-one}
-use Rattle.field.specs.Field.{Ext, field, base, fromWords, Holds}
+use Rattle.field.specs.Field.{p, Ext, field, base, fromWords, Holds}
 use Rattle.field.specs.declared.Element.{Element}
 use Rattle.field.proofs.Laws.{field-ring, read-as}
-use Rattle.table.specs.Table.{elementAt, elements, placed}
-use Rattle.table.specs.Inner.{Gained}
-use Rattle.table.proofs.Gaining.{gained-as}
-use Rattle.table.proofs.Placed.{placed-zero}
-use Rattle.kernel.specs.Kernel.{Rows, fourProducts, fourRows}
-use Rattle.piece.specs.Inner.{Scatters}
-use Rattle.piece.proofs.Scattering.{scattered}
+use Rattle.table.specs.Table.{tableWords, elementAt, elements, entries}
+use Rattle.table.specs.Gained.{Gained}
+use Rattle.table.proofs.Laws.{table-at}
+use Rattle.table.proofs.Gaining.{nothing, gained-as, added}
+use Rattle.table.proofs.Parts.{after, after-word}
+use Rattle.table.proofs.Tests.{reduced-at, unreduced-table}
+use Rattle.kernel.specs.Kernel.{Rows, twoProducts, twoRows, fourProducts, fourRows}
+use Rattle.piece.specs.Inner.{Scatters, Scattered, wholeRows, Weighs, rowTerm}
+use Rattle.piece.proofs.Scattering.{rows-fit, rows-scattered}
 
--- a fold over four rows
+-- a fold over two rows
+two : (inner : ℕ) (z w : Ext) (f : ℕ → Ext) (y : ℕ)
+    → foldAt field Prefix Plain inner (z ∷ []) w f y
+    ≡ field .add (field .mul (minus field w (field .mul w z)) (f y)) (field .mul (field .mul w z) (f (inner + y)))
+two inner z w f y =
+    let q : 2 ^ 0 * inner + y ≡ inner + y = omega arith in
+    fold-step field-ring inner z [] w f y
+    ∙ ap₂ (field .add) (fold-one field-ring inner _ f y)
+    (fold-one field-ring inner _ (λ t. f (2 ^ 0 * inner + t)) y ∙ ap (λ n. field .mul (field .mul w z) (f n)) q)
+
+-- and over four
 four : (inner : ℕ) (z0 z1 w : Ext) (f : ℕ → Ext) (y : ℕ)
     → let high = field .mul w z0 in
     let low = minus field w high in
@@ -31,51 +49,96 @@ four : (inner : ℕ) (z0 z1 w : Ext) (f : ℕ → Ext) (y : ℕ)
     (field .add (field .mul (minus field low (field .mul low z1)) (f y)) (field .mul (field .mul low z1) (f (inner + y))))
     (field .mul (minus field high (field .mul high z1)) (f (2 * inner + y)))) (field .mul (field .mul high z1) (f (3 * inner + y)))
 four inner z0 z1 w f y =
-    let q0 : 2 ^ 0 * inner + y ≡ inner + y = omega arith in
-    let q1 : 2 ^ 1 * inner + y ≡ 2 * inner + y = omega arith in
-    let q2 : 2 ^ 1 * inner + (2 ^ 0 * inner + y) ≡ 3 * inner + y = omega arith in
+    let q : 2 ^ 1 * inner + (inner + y) ≡ 3 * inner + y = omega arith in
     let high : Ext = field .mul w z0 in
-    let low : Ext = minus field w high in
     fold-step field-ring inner z0 (z1 ∷ []) w f y
-    ∙ ap₂ (field .add)
-    (fold-step field-ring inner z1 [] low f y
-    ∙ ap₂ (field .add) (fold-one field-ring inner _ f y)
-    (fold-one field-ring inner _ (λ t. f (2 ^ 0 * inner + t)) y ∙ ap (λ n. field .mul (field .mul low z1) (f n)) q0))
-    (fold-step field-ring inner z1 [] high (λ t. f (2 ^ 1 * inner + t)) y
-    ∙ ap₂ (field .add)
-    (fold-one field-ring inner _ (λ t. f (2 ^ 1 * inner + t)) y
-    ∙ ap (λ n. field .mul (minus field high (field .mul high z1)) (f n)) q1)
-    (fold-one field-ring inner _ (λ t. f (2 ^ 1 * inner + (2 ^ 0 * inner + t))) y
-    ∙ ap (λ n. field .mul (field .mul high z1) (f n)) q2))
+    ∙ ap₂ (field .add) (two inner z1 (minus field w high) f y)
+    (two inner z1 high (λ t. f (2 ^ 1 * inner + t)) y
+    ∙ ap (λ n. field .add (field .mul (minus field high (field .mul high z1)) (f (2 * inner + y))) (field .mul (field .mul high z1) (f n))) q)
     ∙ sym (field-ring .add-assoc _ _ _)
 
-module _ {i inner : ℕ} {point words out : List ℕ} {weight : Element} (s : Scatters i 2 0 inner point weight words out)
-    (all : length words ≡ 4 * inner) where
-  pub rows-fit : Rows 4 inner out words
-  rows-fit = record { room = omega (arith, s .room); there = omega (arith, all); words-below = s .below }
+-- the weights of the rows
+module _ (weight : Element) (rest words : List ℕ) (inner : ℕ) {z0 high low : Element} (hz0 : Holds z0 (elementAt rest 0))
+    (hh : Holds high (field .mul (fromWords weight) (fromWords z0)))
+    (hl : Holds low (minus field (fromWords weight) (fromWords high))) where
+  pub two-rows : (y : ℕ) → twoRows low high inner words y ≡ wholeRows 1 rest weight inner words y
+  unfolding twoProducts elements
+  two-rows y = rw (read-as _ hl, read-as _ hh, read-as _ hz0) (sym (two inner _ _ (λ t. base (getD words t 0)) y))
 
-  coordinates : elements point i 2 ≡ elementAt point i ∷ elementAt point (i + 1) ∷ []
-  unfolding elements
-  coordinates = ap (λ a. elementAt point i ∷ elementAt point a ∷ []) (sym (add-one i))
+  pub four-rows : {z1 w1 w3 w0 w2 : Element} → Holds z1 (elementAt rest 1) → Holds w1 (field .mul (fromWords low) (fromWords z1))
+      → Holds w3 (field .mul (fromWords high) (fromWords z1)) → Holds w0 (minus field (fromWords low) (fromWords w1))
+      → Holds w2 (minus field (fromWords high) (fromWords w3)) → (y : ℕ)
+      → fourRows w0 w1 w2 w3 inner words y ≡ wholeRows 2 rest weight inner words y
+  unfolding fourProducts elements
+  four-rows hz1 h1 h3 h0 h2 y =
+      rw (read-as _ h0, read-as _ h2, read-as _ h1, read-as _ h3, read-as _ hl, read-as _ hh, read-as _ hz0, read-as _ hz1)
+      (sym (four inner _ _ _ (λ t. base (getD words t 0)) y))
 
-  -- the weights of the rows
-  module _ {z1 z0 high low w1 w3 w0 w2 : Element} (hz1 : Holds z1 (elementAt point (i + 1))) (hz0 : Holds z0 (elementAt point i))
-      (hh : Holds high (field .mul (fromWords weight) (fromWords z0))) (hl : Holds low (minus field (fromWords weight) (fromWords high)))
-      (h1 : Holds w1 (field .mul (fromWords low) (fromWords z1))) (h3 : Holds w3 (field .mul (fromWords high) (fromWords z1)))
-      (h0 : Holds w0 (minus field (fromWords low) (fromWords w1))) (h2 : Holds w2 (minus field (fromWords high) (fromWords w3))) where
-    same : (y : ℕ) → fourRows w0 w1 w2 w3 inner words y ≡ scattered i 2 0 inner point (fromWords weight) words y
-    unfolding fourProducts
-    same y =
-        rw (read-as _ h0, read-as _ h2, read-as _ h1, read-as _ h3, read-as _ hl, read-as _ hh, read-as _ hz0, read-as _ hz1)
-        (rw (
-          ← placed-zero words y,
-          ← placed-zero words (inner + y),
-          ← placed-zero words (2 * inner + y),
-          ← placed-zero words (3 * inner + y),
-        )
-        (sym (four inner (elementAt point i) (elementAt point (i + 1)) (fromWords weight) (λ t. base (placed 0 words t)) y))
-        ∙ ap (λ us. foldAt field Prefix Plain inner us (fromWords weight) (λ t. base (placed 0 words t)) y) (sym coordinates))
+-- sixteen rows
+module _ {from : ℕ} {rest block words out : List ℕ} {weight : Element} (s : Scatters from rest weight block words out)
+    (left : entries rest ≡ 4) (there : length block ≡ 64) (all : length words ≡ 16 * entries out) where
+  table-is : block ≡ tableWords 16 (eqAt field (elements rest 0 4))
+  table-is = s .block-is there 0 (sym left)
 
-    pub rows-gained : {w : List ℕ} → Gained 0 inner (fourRows w0 w1 w2 w3 inner words) out w
-        → Gained 0 inner (scattered i 2 0 inner point (fromWords weight) words) out w
-    rows-gained d = gained-as _ d (λ y h. same y)
+  pub weighs : Weighs weight block words out
+  weighs =
+      record {
+        weight-is = s .weight-is;
+        block-there = there;
+        block-below = rw table-is (unreduced-table 16 _);
+        rows-are = rows-fit s 4 left all;
+        out-below = s .out-below;
+      }
+
+  pub sixteen-scattered : {w : List ℕ} → Gained 0 (entries out) (λ i. sumTo field 16 (rowTerm weight block (entries out) words i)) out w
+      → Scattered from rest weight words out w
+  unfolding foldAt rowTerm elements
+  sixteen-scattered d =
+      rows-scattered s 4 left all d (λ i h.
+      sum-ext field-ring 16 _ _ (λ y b.
+      ap (λ e. field .mul (field .mul (fromWords weight) e) (base (getD words (y * entries out + i) 0)))
+      (ap (λ ws. elementAt ws y) table-is ∙ table-at 16 _ y b)))
+
+-- four of sixteen rows are there from row 4 j on
+pub four-within : (inner j n : ℕ) → j < 4 → 16 * inner ≤ n → 4 * j * inner + 4 * inner ≤ n
+four-within inner j n more all =
+    let m : (4 * j + 4) * inner ≤ 16 * inner = mul-le-mul-right inner (omega arith) in
+    omega (arith, add-mul (4 * j) 4 inner)
+
+-- the rows' sum, four rows at a time
+module _ (weight : Element) (block words : List ℕ) (inner : ℕ) where
+  abbrev term : ℕ → ℕ → Ext
+  term = rowTerm weight block inner words
+
+  pub no-rows : (out : List ℕ) → unreduced p out ≡ false → Gained 0 inner (λ i. sumTo field (4 * 0) (term i)) out out
+  unfolding sumTo
+  no-rows out r = nothing 0 inner out (λ y h. reduced-at out r (0 + y))
+
+  module _ (j : ℕ) where
+    row : (a y place i : ℕ) (e : Element) → y ≡ 4 * j + a → place ≡ a * inner + i
+        → Holds e (field .mul (fromWords weight) (elementAt block y))
+        → field .mul (fromWords e) (base (getD (after (4 * j * inner) words) place 0)) ≡ term i (4 * j + a)
+    unfolding rowTerm
+    row a y place i e k q d =
+        let r : 4 * j * inner + place ≡ (4 * j + a) * inner + i = omega (arith, add-mul (4 * j) a inner) in
+        ap₂ (λ u v. field .mul u (base v)) (read-as _ d ∙ ap (λ n. field .mul (fromWords weight) (elementAt block n)) k)
+        (after-word (4 * j * inner) words place ∙ ap (λ n. getD words n 0) r)
+
+    pub four-more : {a0 a1 a2 a3 : Element} {ws w w′ : List ℕ} → Gained 0 inner (λ i. sumTo field (4 * j) (term i)) ws w
+        → Holds a0 (field .mul (fromWords weight) (elementAt block (4 * j)))
+        → Holds a1 (field .mul (fromWords weight) (elementAt block (4 * j + 1)))
+        → Holds a2 (field .mul (fromWords weight) (elementAt block (4 * j + 2)))
+        → Holds a3 (field .mul (fromWords weight) (elementAt block (4 * j + 3)))
+        → Gained 0 inner (fourRows a0 a1 a2 a3 inner (after (4 * j * inner) words)) w w′
+        → Gained 0 inner (λ i. sumTo field (4 * (j + 1)) (term i)) ws w′
+    unfolding fourProducts sumTo
+    four-more {a0} {a1} {a2} {a3} d e0 e1 e2 e3 g =
+        let q : 4 * j + 4 ≡ 4 * (j + 1) = omega arith in
+        gained-as _ (added d g) (λ i h.
+        ap (field .add (sumTo field (4 * j) (term i)))
+        (ap₂ (field .add)
+        (ap₂ (field .add)
+        (ap₂ (field .add) (row 0 _ _ i a0 (omega arith) (omega arith) e0 ∙ sym (zero-add field-ring (term i (4 * j + 0)))) (row 1 _ _ i a1 (omega arith) (omega arith) e1))
+        (row 2 _ _ i a2 (omega arith) (omega arith) e2))
+        (row 3 _ _ i a3 (omega arith) (omega arith) e3))
+        ∙ sym (sum-split field-ring 4 (4 * j) (term i)) ∙ ap (λ n. sumTo field n (term i)) q)

@@ -1,92 +1,171 @@
 -- What the inner functions take and give. No operation that users call cites it. Assumes nothing.
 use mathlib.Core.Path.{_≡_}
 use mathlib.Core.Bool.{Bool, false, cond}
-use Prim.Native.Nat.{ℕ, _+_, _-_, _*_, _/_, _^_, _≤_, _<_}
+use Prim.Native.Nat.{ℕ, _+_, _-_, _*_, _/_, _^_, _≤_, _<_, min}
 use mathlib.Core.List.{List}
 use lib.Dec.{ltb}
-use lib.ListN.{length}
+use lib.ListN.{length, getD, take}
 use Rattle.algebra.specs.Ring.{Ops}
 use Rattle.algebra.specs.Words.{unreduced}
 use Rattle.multilinear.specs.declared.Side.{Side}
 use Rattle.multilinear.specs.declared.Side.the-variants.{Prefix, Suffix}
-use Rattle.multilinear.specs.Values.{valueAt}
-use Rattle.field.specs.Field.{p, Ext, field, base, fromWords, Reduced}
+use Rattle.multilinear.specs.declared.Weight.the-variants.{Plain}
+use Rattle.multilinear.specs.Equality.{eqAt}
+use Rattle.multilinear.specs.Folds.{foldAt}
+use Rattle.multilinear.specs.Inner.{skipOf, movedAt, ownAt}
+use Rattle.field.specs.Field.{p, Ext, field, base, fromWords, Reduced, Holds}
 use Rattle.field.specs.declared.Element.{Element}
-use Rattle.table.specs.Table.{elements, placed}
+use Rattle.table.specs.Table.{tableWords, elementAt, elements, entries, pointOf, placed}
+use Rattle.table.specs.Gained.{Gained}
 use Rattle.table.specs.Refusals.{most}
-use Rattle.point.specs.Inner.{Coordinates}
-use Rattle.weigh.specs.Weigh.{Block, blockSum}
+use Rattle.point.specs.Coordinates.{Coordinates}
+use Rattle.kernel.specs.Kernel.{Rows}
+use Rattle.kernel.specs.declared.Weights.{Weights}
+use Rattle.weigh.specs.Weigh.{Block}
+use Rattle.piece.specs.declared.Terms.{Terms}
+use Rattle.piece.specs.declared.own.Stand.{Stand}
+use Rattle.piece.specs.declared.places.Shape.{Shape}
+use Rattle.piece.specs.declared.places.Range.{Range}
+use Rattle.piece.specs.declared.places.Span.{Span}
 
--- a piece of a table of n variables, k coordinates and a scale, and an element of out for each place, all reduced
-pub record Pieces (n k : ℕ) (scale : Element) (point : List ℕ) (taken : ℕ) (piece out : List ℕ) : Type 0 where
-  pub small : n ≤ most
-  pub fits : k ≤ n
-  pub point-is : Coordinates k point
-  pub scale-is : Reduced scale
-  pub within : taken + length piece ≤ 2 ^ n
+-- a piece of a table of 2^k rows of `inner` words, k coordinates and a scale, and an element of out for each place, all reduced
+pub record Adds (terms : Terms) (point : List ℕ) (taken : ℕ) (piece out : List ℕ) : Type 0 where
+  pub some : 0 < terms .inner
+  pub small : 2 ^ terms .k * terms .inner ≤ 2 ^ most
+  pub count : length point ≡ 4 * terms .k
+  pub point-is : Coordinates (terms .k) point
+  pub scale-is : Reduced (terms .scale)
+  pub within : taken + length piece ≤ 2 ^ terms .k * terms .inner
   pub piece-below : unreduced p piece ≡ false
-  pub room : length out ≡ 4 * 2 ^ (n - k)
+  pub room : length out ≡ 4 * terms .inner
   pub out-below : unreduced p out ≡ false
 
--- a piece of `len` words of 2^k rows of `inner` words
-pub record Counts (k inner taken len : ℕ) : Type 0 where
-  pub few : k ≤ most
-  pub small : 2 ^ k * inner ≤ 2 ^ most
-  pub within : taken + len ≤ 2 ^ k * inner
+-- what place i gains of the piece by the rows from `skip` on, each by scale·eq of the row `skip` before it
+unfoldable pub movedBy : Side → Terms → List ℕ → ℕ → List ℕ → ℕ → Ext
+movedBy side terms point taken piece i =
+    movedAt field side (skipOf (terms .weight)) (terms .inner) (elements point 0 (terms .k)) (fromWords (terms .scale))
+    (λ t. base (placed taken piece t)) i
 
--- a word of it is in the last row of its place
-unfoldable pub hasLast : Side → ℕ → ℕ → ℕ → ℕ → Bool
-hasLast Prefix rows inner taken len = ltb ((rows - 1) * inner) (taken + len)
-hasLast Suffix rows inner taken len = ltb (taken / rows) ((taken + len) / rows)
+-- and by the row that has a weight of its own
+unfoldable pub ownBy : Side → Terms → List ℕ → ℕ → List ℕ → ℕ → Ext
+ownBy side terms point taken piece i =
+    ownAt field side (terms .weight) (terms .inner) (elements point 0 (terms .k)) (fromWords (terms .scale))
+    (λ t. base (placed taken piece t)) i
 
--- a piece, with 2^k rows of `inner` words, and how the rows are weighed
-pub record Adds (skip : ℕ) (last : Element) (k inner : ℕ) (scale : Element) (point : List ℕ) (taken : ℕ) (piece out : List ℕ) : Type 0 where
-  pub one : skip ≤ 1
-  pub last-is : Reduced last
-  pub some : 0 < inner
-  pub small : 2 ^ k * inner ≤ 2 ^ most
-  pub point-is : Coordinates k point
-  pub scale-is : Reduced scale
-  pub within : taken + length piece ≤ 2 ^ k * inner
-  pub piece-below : unreduced p piece ≡ false
-  pub room : length out ≡ 4 * inner
-  pub out-below : unreduced p out ≡ false
+-- the same, with the point at the front of the words
+pub record Given (terms : Terms) (words : List ℕ) (taken : ℕ) (piece out : List ℕ) : Type 0 where
+  pub there : 4 * terms .k ≤ length words
+  pub adds : Adds terms (take (4 * terms .k) words) taken piece out
 
--- words from word `from` on of 2^left rows of `inner` words, coordinates from i on, and a weight
-pub record Scatters (i left from inner : ℕ) (point : List ℕ) (weight : Element) (words out : List ℕ) : Type 0 where
-  pub some : 0 < inner
-  pub small : 2 ^ left * inner ≤ 2 ^ most
-  pub point-is : Coordinates (i + left) point
+-- and by all rows
+unfoldable pub termsBy : Side → Terms → List ℕ → ℕ → List ℕ → ℕ → Ext
+termsBy side terms words taken piece i =
+    let point = take (4 * terms .k) words in
+    field .add (movedBy side terms point taken piece i) (ownBy side terms point taken piece i)
+
+-- a row of a table of so many rows of `inner` words
+pub record Apart (row rows inner : ℕ) : Type 0 where
+  pub there : row < rows
+  pub small : rows * inner ≤ 2 ^ most
+
+-- where the words of the row stand: on the prefix side together, on the suffix side a place's rows apart
+abbrev pub apart : Side → ℕ → ℕ → ℕ → Stand
+apart Prefix row rows inner = record { row = row; start = row * inner; stride = 1 }
+apart Suffix row rows inner = record { row = row; start = row; stride = rows }
+
+-- words of a row that stand in a table of these terms
+pub record Stands (stand : Stand) (terms : Terms) : Type 0 where
+  pub some : 0 < stand .stride
+  pub near : stand .stride ≤ 2 ^ most
+  pub within : stand .start + terms .inner * stand .stride ≤ 2 ^ most + 2 ^ most
+
+-- the places whose word of the row stands before word t
+unfoldable pub reached : Stand → ℕ → ℕ → ℕ
+reached stand inner t = min inner ((t - stand .start + stand .stride - 1) / stand .stride)
+
+-- what place i gains by the row: scale·eq of the row·word
+unfoldable pub rowBy : Stand → Terms → List ℕ → ℕ → List ℕ → ℕ → Ext
+rowBy stand terms point taken piece i =
+    field .mul (field .mul (fromWords (terms .scale)) (eqAt field (elements point 0 (terms .k)) (stand .row)))
+    (base (placed taken piece (stand .start + i * stand .stride)))
+
+-- words from word `from` on of rows of as many words as out has elements, the coordinates that are left, and a weight; a block of 64
+-- words is the table of eq of the last four coordinates
+pub record Scatters (from : ℕ) (rest : List ℕ) (weight : Element) (block words out : List ℕ) : Type 0 where
+  pub rest-is : Coordinates (entries rest) rest
   pub weight-is : Reduced weight
-  pub within : from + length words ≤ 2 ^ left * inner
+  pub block-is : length block ≡ 64 → (a : ℕ) → a + 4 ≡ entries rest → block ≡ tableWords 16 (eqAt field (elements rest a 4))
+  pub small : 2 ^ entries rest * entries out ≤ 2 ^ most
+  pub within : from + length words ≤ 2 ^ entries rest * entries out
   pub below : unreduced p words ≡ false
-  pub room : length out ≡ 4 * inner
+  pub room : length out ≡ 4 * entries out
   pub out-below : unreduced p out ≡ false
 
--- the table of a block of the last `low` coordinates
-pub record Blocks (k low : ℕ) (scale : Element) (point block : List ℕ) : Type 0 where
-  pub low-fits : low ≤ k
-  pub small : low ≤ 8
-  pub block-is : Block (k - low) low point (fromWords scale) block
+-- out gains, at each place, the words of its rows by weight·eq of the coordinates that are left
+abbrev pub Scattered : ℕ → List ℕ → Element → List ℕ → List ℕ → List ℕ → Type 0
+Scattered from rest weight words out w =
+    Gained 0 (entries out)
+    (foldAt field Prefix Plain (entries out) (pointOf rest) (fromWords weight) (λ t. base (placed from words t)))
+    out w
 
--- place i has words of the piece or comes after them, and a block's table is there
-pub record Places (i skip : ℕ) (last : Element) (k low : ℕ) (point block : List ℕ) (taken : ℕ) (piece : List ℕ) : Type 0 where
-  pub one : skip ≤ 1
-  pub last-is : Reduced last
-  pub point-is : Coordinates k point
-  pub low-fits : low ≤ k
-  pub small : low ≤ 8
-  pub block-room : 4 * 2 ^ low ≤ length block
+-- what place i gains of 2^n whole rows
+abbrev pub wholeRows : ℕ → List ℕ → Element → ℕ → List ℕ → ℕ → Ext
+wholeRows n rest weight inner words i = foldAt field Prefix Plain inner (elements rest 0 n) (fromWords weight) (λ t. base (getD words t 0)) i
+
+-- a weight, the table of a block of sixteen rows and the rows' words, all reduced, and an element of out for each word of a row
+pub record Weighs (weight : Element) (block words out : List ℕ) : Type 0 where
+  pub weight-is : Reduced weight
+  pub block-there : length block ≡ 64
   pub block-below : unreduced p block ≡ false
-  pub reached : taken < i * 2 ^ k + 2 ^ k
-  pub few : i * 2 ^ k + 2 ^ k ≤ 2 ^ most
-  pub within : taken + length piece ≤ 2 ^ most
-  pub piece-below : unreduced p piece ≡ false
+  pub rows-are : Rows 16 (entries out) out words
+  pub out-below : unreduced p out ≡ false
 
--- what place i gains: its rows from `skip` on against the block's table, and its last row's word once more
-unfoldable pub placeSum : ℕ → ℕ → Ext → ℕ → ℕ → List ℕ → List ℕ → ℕ → List ℕ → Ext
-placeSum i skip last k low point block taken piece =
-    field .add
-    (valueAt field (elements point 0 (k - low))
-    (blockSum low block (λ y. cond (ltb (y + skip) (2 ^ k)) (placed taken piece (i * 2 ^ k + (y + skip))) 0)))
-    (field .mul last (base (placed taken piece (i * 2 ^ k + (2 ^ k - 1)))))
+-- the word of place i of row y by weight times element y of the block
+unfoldable pub rowTerm : Element → List ℕ → ℕ → List ℕ → ℕ → ℕ → Ext
+rowTerm weight block inner words i y =
+    field .mul (field .mul (fromWords weight) (elementAt block y)) (base (getD words (y * inner + i) 0))
+
+-- a piece, and the table of a block of the last `low` coordinates
+pub record Blocks (shape : Shape) (point block piece out : List ℕ) : Type 0 where
+  pub adds : Adds (shape .terms) point (shape .taken) piece out
+  pub low-fits : shape .low ≤ shape .terms .k
+  pub enough : min (shape .terms .k) 2 ≤ shape .low
+  pub small : shape .low ≤ 8
+  pub block-is : Block (shape .terms .k - shape .low) (shape .low) point (fromWords (shape .terms .scale)) block
+
+-- places that are there, none of them before the one that the piece starts in
+pub record Reached (shape : Shape) (range : Range) : Type 0 where
+  pub order : range .from ≤ range .to
+  pub begun : shape .taken ≤ range .from * 2 ^ shape .terms .k + 2 ^ shape .terms .k
+  pub there : range .to ≤ shape .terms .inner
+
+-- places that have all their words in the piece
+pub record Wholes (shape : Shape) (range : Range) (piece : List ℕ) : Type 0 where
+  pub order : range .from ≤ range .to
+  pub begun : shape .taken ≤ range .from * 2 ^ shape .terms .k
+  pub ended : range .to * 2 ^ shape .terms .k ≤ shape .taken + length piece
+
+-- each place of the range gained what it has of the piece
+abbrev pub GainedIn : Shape → Range → List ℕ → List ℕ → List ℕ → List ℕ → Type 0
+GainedIn shape range point piece ws w =
+    Gained (range .from) (range .to - range .from)
+    (λ y. movedBy Suffix (shape .terms) point (shape .taken) piece (range .from + y)) ws w
+
+-- the words of a piece of `len` words from word `start` to before word `stop` of the table, and the rows before them
+pub record Cuts (taken len start stop : ℕ) (c : Span) : Type 0 where
+  pub order : start ≤ stop
+  pub begun : taken ≤ stop
+  pub a-is : c .a ≡ min len (start - taken)
+  pub b-is : c .b ≡ min len (stop - taken)
+  pub from-is : c .from ≡ taken - start
+
+-- the weight of row y: what the block's table has `skip` rows before
+unfoldable pub weightOf : List ℕ → ℕ → ℕ → Ext
+weightOf block skip y = cond (ltb y skip) (field .zero) (elementAt block (y - skip))
+
+-- those of four rows
+pub record Weighed (block : List ℕ) (skip : ℕ) (w : Weights) : Type 0 where
+  pub at0 : Holds (w .w0) (weightOf block skip 0)
+  pub at1 : Holds (w .w1) (weightOf block skip 1)
+  pub at2 : Holds (w .w2) (weightOf block skip 2)
+  pub at3 : Holds (w .w3) (weightOf block skip 3)

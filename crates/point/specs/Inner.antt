@@ -1,23 +1,15 @@
 -- What the inner functions take and give. No operation that users call cites it. Assumes nothing.
 use mathlib.Core.Path.{_≡_}
-use mathlib.Core.Bool.{false}
 use Prim.Native.Nat.{ℕ, zero, suc, _+_, _-_, _*_, _^_, _≤_, _<_}
 use mathlib.Core.List.{List}
 use lib.ListN.{length}
 use Rattle.algebra.specs.Ring.{Ops, minus}
-use Rattle.algebra.specs.Words.{unreduced}
-use Rattle.field.specs.Field.{p, Ext, field, toWords, fromWords, Reduced, Holds}
+use Rattle.field.specs.Field.{Ext, field, toWords, fromWords, Reduced, Holds}
 use Rattle.field.specs.declared.Element.{Element}
 use Rattle.table.specs.Table.{getAt, elementAt}
-use Rattle.table.specs.Refusals.{most}
 use Rattle.point.specs.declared.equality.BitOrder.{BitOrder}
+use Rattle.point.specs.Coordinates.{Coordinates}
 use Rattle.point.specs.declared.equality.BitOrder.the-variants.{Msb, Lsb}
-
--- k coordinates at the front of the words, each word below p
-pub record Coordinates (k : ℕ) (point : List ℕ) : Type 0 where
-  pub few : k ≤ most
-  pub count : 4 * k ≤ length point
-  pub below : unreduced p point ≡ false
 
 -- two coordinates, and their product
 pub record Paired (s t both : Element) : Type 0 where

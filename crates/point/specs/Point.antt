@@ -53,18 +53,18 @@ equalityOut order point out = leaves (tableAnswer point out) (tableWords (2 ^ en
 
 -- `eval_eq`, `eval_next`: 1, 3, 4, 5
 abbrev pub pairTests : List ℕ → List ℕ → List Test
-pairTests point row =
+pairTests point other =
     splits point gives 1
-    ∷ splits row gives 1
+    ∷ splits other gives 1
     ∷ tooMany point gives 3
-    ∷ tooMany row gives 3
-    ∷ not (eqb (entries point) (entries row)) gives 4
+    ∷ tooMany other gives 3
+    ∷ not (eqb (entries point) (entries other)) gives 4
     ∷ unreduced p point gives 5
-    ∷ unreduced p row gives 5
+    ∷ unreduced p other gives 5
     ∷ []
 
 unfoldable pub evalEqAnswer : List ℕ → List ℕ → Outcome
-evalEqAnswer point row = evaluated (verdict (pairTests point row)) (evalEq field (pointOf point) (pointOf row))
+evalEqAnswer point other = evaluated (verdict (pairTests point other)) (evalEq field (pointOf point) (pointOf other))
 
 -- number and words of a `Next`
 abbrev pub nextOutcome : Next → Outcome
@@ -76,7 +76,7 @@ abbrev pub partWords : NextParts Ext → List ℕ
 partWords x = wordsOf (x .carry) ++ wordsOf (x .done) ++ wordsOf (x .omega)
 
 unfoldable pub evalNextAnswer : List ℕ → List ℕ → Outcome
-evalNextAnswer point row = given (verdict (pairTests point row)) (partWords (evalNext field (pointOf point) (pointOf row)))
+evalNextAnswer point other = given (verdict (pairTests point other)) (partWords (evalNext field (pointOf point) (pointOf other)))
 
 -- `eval_select`: 1, 3, 5
 abbrev pub selectTests : ℕ → List ℕ → List Test

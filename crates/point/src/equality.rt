@@ -14,7 +14,8 @@ ghost use Rattle.table.specs.Table.{tableWords, elements};
 ghost use Rattle.table.specs.Refusals.{answer, outcome, verdict};
 ghost use Rattle.point.specs.declared.equality.BitOrder.the-variants.{Msb, Lsb};
 ghost use Rattle.point.specs.Point.{vertexTests, vertexAnswer, tableAnswer, equalityOut, eqBy};
-ghost use Rattle.point.specs.Inner.{Coordinates, entering, Doubled, Doubles, Fits, Follows};
+ghost use Rattle.point.specs.Inner.{entering, Doubled, Doubles, Fits, Follows};
+ghost use Rattle.point.specs.Coordinates.{Coordinates};
 
 // Which end of a point goes with the highest bit of a row number.
 pub enum BitOrder {

@@ -13,7 +13,8 @@ ghost use Rattle.field.specs.Field.{field, fromWords, Reduced, Holds};
 ghost use Rattle.table.specs.Table.{elements};
 ghost use Rattle.table.specs.Refusals.{answer, outcome, given, verdict};
 ghost use Rattle.point.specs.Point.{pairTests, evalEqAnswer, evalNextAnswer, nextOutcome, partWords};
-ghost use Rattle.point.specs.Inner.{Coordinates, Paired};
+ghost use Rattle.point.specs.Inner.{Paired};
+ghost use Rattle.point.specs.Coordinates.{Coordinates};
 
 pub enum Next {
     Parts {
@@ -25,50 +26,50 @@ pub enum Next {
 }
 
 // The product of 2pq - p - q + 1 over the pairs of coordinates.
-pub fn eval_eq(point: &[u32], row: &[u32]) -> Evaluation
-    ensures { λ r. ⌜ outcome r ≡ evalEqAnswer (now (point .entry)) (now (row .entry)) ⌝ }
+pub fn eval_eq(point: &[u32], other: &[u32]) -> Evaluation
+    ensures { λ r. ⌜ outcome r ≡ evalEqAnswer (now (point .entry)) (now (other .entry)) ⌝ }
 {
-    let tested = test_pair(point, row);
+    let tested = test_pair(point, other);
     match tested {
         Verdict::Refused(refusal) => Evaluation::Refused(refusal),
-        Verdict::Accepted => Evaluation::Value(agreements(point, row, point.len() / 4).value()),
+        Verdict::Accepted => Evaluation::Value(agreements(point, other, point.len() / 4).value()),
     }
 }
 
 // carry, done and omega of two points.
-pub fn eval_next(point: &[u32], row: &[u32]) -> Next
-    ensures { λ r. ⌜ nextOutcome r ≡ evalNextAnswer (now (point .entry)) (now (row .entry)) ⌝ }
+pub fn eval_next(point: &[u32], other: &[u32]) -> Next
+    ensures { λ r. ⌜ nextOutcome r ≡ evalNextAnswer (now (point .entry)) (now (other .entry)) ⌝ }
 {
-    let tested = test_pair(point, row);
+    let tested = test_pair(point, other);
     match tested {
         Verdict::Refused(refusal) => Next::Refused(refusal),
-        Verdict::Accepted => next_parts(point, row, point.len() / 4),
+        Verdict::Accepted => next_parts(point, other, point.len() / 4),
     }
 }
 
-fn test_pair(point: &[u32], row: &[u32]) -> Verdict
-    ensures { λ r. ⌜ answer r ≡ verdict (pairTests (now (point .entry)) (now (row .entry))) ⌝ }
+fn test_pair(point: &[u32], other: &[u32]) -> Verdict
+    ensures { λ r. ⌜ answer r ≡ verdict (pairTests (now (point .entry)) (now (other .entry))) ⌝ }
 {
     Verdict::Accepted
         .refuse_if(table::splits(point), Refusal::Split)
-        .refuse_if(table::splits(row), Refusal::Split)
+        .refuse_if(table::splits(other), Refusal::Split)
         .refuse_if(table::too_many(point), Refusal::TooMany)
-        .refuse_if(table::too_many(row), Refusal::TooMany)
-        .refuse_if(table::lengths_differ(point, row), Refusal::Lengths)
+        .refuse_if(table::too_many(other), Refusal::TooMany)
+        .refuse_if(table::lengths_differ(point, other), Refusal::Lengths)
         .refuse_if(field::unreduced(point), Refusal::Unreduced)
-        .refuse_if(field::unreduced(row), Refusal::Unreduced)
+        .refuse_if(field::unreduced(other), Refusal::Unreduced)
 }
 
-fn agreements(point: &[u32], row: &[u32], k: usize) -> Element
-    requires { ⌜ Coordinates k (now point) × Coordinates k (now row) ⌝ }
-    ensures { λ r. ⌜ Holds r (evalEq field (elements (now (point .entry)) 0 k) (elements (now (row .entry)) 0 k)) ⌝ }
+fn agreements(point: &[u32], other: &[u32], k: usize) -> Element
+    requires { ⌜ Coordinates k (now point) × Coordinates k (now other) ⌝ }
+    ensures { λ r. ⌜ Holds r (evalEq field (elements (now (point .entry)) 0 k) (elements (now (other .entry)) 0 k)) ⌝ }
 {
     let mut product = Element::one();
     let mut j = k;
     while 0 < j {
         j -= 1;
         let s = table::read(point, j);
-        let t = table::read(row, j);
+        let t = table::read(other, j);
         product = agree(s, t, s.mul(t)).mul(product);
     }
     product
@@ -76,9 +77,9 @@ fn agreements(point: &[u32], row: &[u32], k: usize) -> Element
 
 // From the last pair, which goes with the lowest bit, back to coordinate 0. The product st of a pair serves every step: five products a
 // pair.
-fn next_parts(point: &[u32], row: &[u32], k: usize) -> Next
-    requires { ⌜ Coordinates k (now point) × Coordinates k (now row) ⌝ }
-    ensures { λ r. ⌜ nextOutcome r ≡ given 0 (partWords (evalNext field (elements (now (point .entry)) 0 k) (elements (now (row .entry)) 0 k))) ⌝ }
+fn next_parts(point: &[u32], other: &[u32], k: usize) -> Next
+    requires { ⌜ Coordinates k (now point) × Coordinates k (now other) ⌝ }
+    ensures { λ r. ⌜ nextOutcome r ≡ given 0 (partWords (evalNext field (elements (now (point .entry)) 0 k) (elements (now (other .entry)) 0 k))) ⌝ }
 {
     let mut carry = Element::one();
     let mut done = Element::zero();
@@ -87,7 +88,7 @@ fn next_parts(point: &[u32], row: &[u32], k: usize) -> Next
     while 0 < j {
         j -= 1;
         let s = table::read(point, j);
-        let t = table::read(row, j);
+        let t = table::read(other, j);
         let both = s.mul(t);
         done = done_step(s, t, both, done, carry);
         carry = carry_step(s, both, carry);

@@ -11,7 +11,7 @@ ghost use Rattle.field.specs.Field.{p, field, base, fromWords, Reduced, Holds};
 ghost use Rattle.table.specs.Table.{elements};
 ghost use Rattle.table.specs.Refusals.{answer, outcome, verdict};
 ghost use Rattle.point.specs.Point.{selectTests, evalSelectAnswer};
-ghost use Rattle.point.specs.Inner.{Coordinates};
+ghost use Rattle.point.specs.Coordinates.{Coordinates};
 
 // The sum of eq[y] var^y.
 pub fn eval_select(var: u32, point: &[u32]) -> Evaluation

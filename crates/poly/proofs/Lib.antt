@@ -1,6 +1,4 @@
 mod Shifting
 mod Succeeding
-mod Outcomes
 mod Next
-mod ValueOutcomes
 mod NextValue

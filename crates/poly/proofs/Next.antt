@@ -15,7 +15,7 @@ use Rattle.field.specs.declared.Element.{Element}
 use Rattle.table.specs.Table.{elementAt, tableWords}
 use Rattle.table.proofs.Laws.{table-length, table-ext}
 use Rattle.table.proofs.Tests.{unreduced-table}
-use Rattle.point.proofs.EqualityOutcomes.{unscaled}
+use Rattle.table.proofs.Laws.{table-unscaled}
 use Rattle.poly.specs.Inner.{Weights, successorAt}
 use Rattle.table.proofs.Laws.{table-at}
 
@@ -43,5 +43,5 @@ next-table k zs one n ws l o e q r =
     ∙ table-ext (2 ^ k) _ _
     (λ y h.
     successor-ext (2 ^ k) (elementAt ws) (eqAt field zs)
-    (λ x b. ap (λ t. elementAt t x) (e ∙ unscaled (2 ^ k) (eqAt field zs) one o) ∙ table-at (2 ^ k) (eqAt field zs) x b) y h
+    (λ x b. ap (λ t. elementAt t x) (e ∙ table-unscaled (2 ^ k) (eqAt field zs) one o) ∙ table-at (2 ^ k) (eqAt field zs) x b) y h
     ∙ ap (λ m. successorAt (2 ^ m) (eqAt field zs) y) (sym l) ∙ next-is zs y)

@@ -10,7 +10,7 @@ ghost use Rattle.field.specs.Field.{field, base, Holds};
 ghost use Rattle.table.specs.Table.{elements};
 ghost use Rattle.table.specs.Refusals.{answer, outcome};
 ghost use Rattle.table.specs.Inner.{onward};
-ghost use Rattle.point.specs.Inner.{Coordinates};
+ghost use Rattle.point.specs.Coordinates.{Coordinates};
 ghost use Rattle.poly.specs.Values.{valueTests, evalBaseAnswer, evalExtAnswer, evalNextBaseAnswer};
 ghost use Rattle.weigh.specs.Weigh.{Whole};
 

@@ -2,7 +2,7 @@
 use mathlib.Core.Path.{_≡_, refl, sym, ap, _∙_}
 use mathlib.Core.Bool.{Bool, true, false, cond, _&&_}
 use mathlib.Core.Logic.{_≢_}
-use Prim.Native.Nat.{ℕ, zero, suc, _+_, _≤_, _<_}
+use Prim.Native.Nat.{ℕ, zero, suc, _+_, _*_, _≤_, _<_}
 use native.Mathlib.Decide.{ℕ-discrete}
 use native.Mathlib.Omega.{arith}
 use mathlib.Core.List.{List, [], _∷_, _++_, append-nil}
@@ -11,9 +11,9 @@ use lib.ListN.{length, getD, replicate, length-replicate, length-set, getD-repli
 use lib.Seq.{getD-set-same, getD-set-other}
 use borrow.Author.Tests.{eqb-true, eq-eqb, ne-eqb}
 use Rattle.field.specs.declared.Element.{Element}
-use Rattle.table.specs.Table.{getAt}
+use Rattle.table.specs.Table.{getAt, putAt}
 use Rattle.table.specs.Refusals.{most}
-use Rattle.table.proofs.Laws.{get-put-same, get-put-other}
+use Rattle.table.proofs.Laws.{length-put, get-put-same, get-put-other}
 use Rattle.frame.specs.Hex.{wordsAt}
 use Rattle.frame.specs.Frame.{coordinatesOf, indexOf, coordinateOf, wordsOf}
 use Rattle.frame.specs.declared.Kind.the-variants as kind
@@ -24,17 +24,27 @@ use Rattle.frames.specs.Reader.{onceEach, onceMore, started, opened}
 use Rattle.frames.specs.Inner.{markedAs}
 use Rattle.runs.specs.Runs.{elementBy, isOpened, isSettled}
 use Rattle.runs.proofs.Steps.{never, Placed, Keeps, put, strayed}
-use Rattle.runs.proofs.Points.{Shaped, shaped-zeros, shaped-put}
+
+-- a plan's k, and room for the most coordinates
+pub record Shaped (k : ℕ) (coordinates : List ℕ) : Type 0 where
+  pub small : k ≤ most
+  pub room : length coordinates ≡ 4 * most
+
+shaped-zeros : (k : ℕ) → k ≤ most → Shaped k (replicate (4 * most) 0)
+shaped-zeros k h = record { small = h; room = length-replicate {A = ℕ} (4 * most) 0 }
+
+shaped-put : (k : ℕ) (ws : List ℕ) (i : ℕ) (e : Element) → Shaped k ws → Shaped k (putAt ws i e)
+shaped-put k ws i e d = record { small = d .small; room = length-put ws i e ∙ d .room }
 
 -- the elements es were given for index i: what the counts say of them, and what the tests before said of the counts
 pub record Given (i : ℕ) (r : Reader) (es : List Element) : Type 0 where
-  pub shaped : Shaped (r .session .k) (r .session .coordinates)
+  pub shaped : Shaped (r .session .plan .k) (r .session .plan .coordinates)
   pub room : length (r .given) ≡ most
   pub none : isOpened (r .phase) ≡ false → es ≡ []
-  pub unseen : i < r .session .k → getD (r .given) i 0 ≡ 0 → es ≡ []
-  pub once : i < r .session .k → getD (r .given) i 0 ≡ 1 → es ≡ getAt (r .session .coordinates) i ∷ []
-  pub stray : r .session .k ≤ i → r .beyond ≡ false → es ≡ []
-  pub each : isSettled (r .phase) ≡ true → onceEach (r .session .k) (r .given) ≡ true
+  pub unseen : i < r .session .plan .k → getD (r .given) i 0 ≡ 0 → es ≡ []
+  pub once : i < r .session .plan .k → getD (r .given) i 0 ≡ 1 → es ≡ getAt (r .session .plan .coordinates) i ∷ []
+  pub stray : r .session .plan .k ≤ i → r .beyond ≡ false → es ≡ []
+  pub each : isSettled (r .phase) ≡ true → onceEach (r .session .plan .k) (r .given) ≡ true
   pub within : isSettled (r .phase) ≡ true → r .beyond ≡ false
 
 and-both : (a b : Bool) → a && b ≡ true → (a ≡ true) × (b ≡ true)
@@ -67,12 +77,12 @@ module _ (i : ℕ) (r : Reader) (es : List Element) (d : Given i r es) (q : r .p
   unsettled z = never (sym z ∙ ap isSettled q)
 
   -- for index i
-  put-here : (e : Element) → length (e .c) ≡ 4 → i < r .session .k → Given i (put r i e) (es ++ e ∷ [])
+  put-here : (e : Element) → length (e .c) ≡ 4 → i < r .session .plan .k → Given i (put r i e) (es ++ e ∷ [])
   put-here e l h =
       let was = getD (r .given) i 0 in
       let more : getD (put r i e .given) i 0 ≡ onceMore was = getD-set-same (r .given) i _ 0 (omega (arith, d .room, d .shaped .small)) in
       let first : getD (put r i e .given) i 0 ≡ 1 → es ≡ [] = λ z. d .unseen h (more-first was (sym more ∙ z)) in
-      let there = get-put-same (r .session .coordinates) i e (omega (arith, d .shaped .small, d .shaped .room)) l in
+      let there = get-put-same (r .session .plan .coordinates) i e (omega (arith, d .shaped .small, d .shaped .room)) l in
       record {
         shaped = shaped-put _ _ i e (d .shaped);
         room = length-set (r .given) i _ ∙ d .room;
@@ -93,14 +103,14 @@ module _ (i : ℕ) (r : Reader) (es : List Element) (d : Given i r es) (q : r .p
         room = length-set (r .given) j _ ∙ d .room;
         none = d .none;
         unseen = λ b z. d .unseen b (sym same ∙ z);
-        once = λ b z. d .once b (sym same ∙ z) ∙ ap (λ x. x ∷ []) (sym (get-put-other (r .session .coordinates) j e i n));
+        once = λ b z. d .once b (sym same ∙ z) ∙ ap (λ x. x ∷ []) (sym (get-put-other (r .session .plan .coordinates) j e i n));
         stray = d .stray;
         each = λ z. unsettled z;
         within = λ z. unsettled z;
       }
 
   -- beyond k
-  stray-here : (xs : List Element) → r .session .k ≤ i → Given i (strayed r) xs
+  stray-here : (xs : List Element) → r .session .plan .k ≤ i → Given i (strayed r) xs
   stray-here xs h =
       record {
         shaped = d .shaped;
@@ -138,7 +148,7 @@ module _ (i : ℕ) where
   brings-here : (bs : List ℕ) → indexOf bs ≡ i → elementBy kind.Coordinate i bs ≡ coordinateOf bs ∷ []
   brings-here bs e = ap (λ b. cond b (coordinateOf bs ∷ []) []) (eq-eqb (indexOf bs) i e)
 
-  puts : (r : Reader) (bs : List ℕ) (es : List Element) → Given i r es → r .phase ≡ phase.Points → indexOf bs < r .session .k
+  puts : (r : Reader) (bs : List ℕ) (es : List Element) → Given i r es → r .phase ≡ phase.Points → indexOf bs < r .session .plan .k
       → Given i (put r (indexOf bs) (coordinateOf bs)) (es ++ elementBy kind.Coordinate i bs)
   puts r bs es d q h = go (ℕ-discrete (indexOf bs) i)
     where
@@ -146,7 +156,7 @@ module _ (i : ℕ) where
       go (yes e) = rw (brings-here bs e, e) (put-here i r es d q (coordinateOf bs) (size bs) (omega arith))
       go (no n) = rw (brings-there bs n, append-nil) (put-there i r es d q (indexOf bs) (coordinateOf bs) (λ e. n (sym e)))
 
-  strays : (r : Reader) (bs : List ℕ) (es : List Element) → Given i r es → r .phase ≡ phase.Points → r .session .k ≤ indexOf bs
+  strays : (r : Reader) (bs : List ℕ) (es : List Element) → Given i r es → r .phase ≡ phase.Points → r .session .plan .k ≤ indexOf bs
       → Given i (strayed r) (es ++ elementBy kind.Coordinate i bs)
   strays r bs es d q h = go (ℕ-discrete (indexOf bs) i)
     where
@@ -169,7 +179,7 @@ module _ (i : ℕ) where
         within = λ z. within-now (isSettled (r .phase)) refl;
       }
     where
-      each-now : (b : Bool) → isSettled (r .phase) ≡ b → onceEach (r .session .k) (r .given) ≡ true
+      each-now : (b : Bool) → isSettled (r .phase) ≡ b → onceEach (r .session .plan .k) (r .given) ≡ true
       each-now true e = d .each e
       each-now false e = h .each e
 
@@ -178,7 +188,7 @@ module _ (i : ℕ) where
       within-now false e = h .within e
 
   -- no coordinate was given yet
-  fresh : (r : Reader) → Shaped (r .session .k) (r .session .coordinates) → r .given ≡ replicate most 0 → isSettled (r .phase) ≡ false
+  fresh : (r : Reader) → Shaped (r .session .plan .k) (r .session .plan .coordinates) → r .given ≡ replicate most 0 → isSettled (r .phase) ≡ false
       → Given i r []
   fresh r d g z =
       record {
@@ -209,9 +219,9 @@ module _ (i : ℕ) where
       }
 
   -- so from then on
-  pub given-once : (r : Reader) (es : List Element) → Given i r es → isSettled (r .phase) ≡ true → i < r .session .k
-      → es ≡ getAt (r .session .coordinates) i ∷ []
-  given-once r es d z h = d .once h (once-each (r .session .k) (r .given) (d .each z) i h)
+  pub given-once : (r : Reader) (es : List Element) → Given i r es → isSettled (r .phase) ≡ true → i < r .session .plan .k
+      → es ≡ getAt (r .session .plan .coordinates) i ∷ []
+  given-once r es d z h = d .once h (once-each (r .session .plan .k) (r .given) (d .each z) i h)
 
-  pub given-none : (r : Reader) (es : List Element) → Given i r es → isSettled (r .phase) ≡ true → r .session .k ≤ i → es ≡ []
+  pub given-none : (r : Reader) (es : List Element) → Given i r es → isSettled (r .phase) ≡ true → r .session .plan .k ≤ i → es ≡ []
   given-none r es d z h = d .stray h (d .within z)

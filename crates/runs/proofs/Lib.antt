@@ -1,5 +1,4 @@
 pub mod Steps
-pub mod Points
 pub mod Opened
 pub mod Counted
 pub mod Folded

@@ -8,7 +8,6 @@ use lib.Dec.{ltb}
 use lib.ListN.{length, getD, set, replicate}
 use borrow.Author.Tests.{ltb-true, ltb-false, not-false}
 use Rattle.field.specs.declared.Element.{Element}
-use Rattle.table.specs.Table.{putAt}
 use Rattle.table.specs.Refusals.{_gives_, leaves}
 use Rattle.table.proofs.Tests.{or-none}
 use Rattle.table.proofs.Verdicts.{Clear}
@@ -20,7 +19,7 @@ use Rattle.frame.specs.Frame.{kindOf, indexOf, coordinateOf}
 use Rattle.frames.specs.declared.Phase.{Phase}
 use Rattle.frames.specs.declared.Phase.the-variants as phase
 use Rattle.frames.specs.declared.Reader.{Reader}
-use Rattle.frames.specs.Reader.{inPlace, isDone, onceEach, kindTests, lineAnswer, opened, withCoordinates, onceMore, counted, done, taken, outBy, turned, outAfter}
+use Rattle.frames.specs.Reader.{inPlace, isDone, onceEach, kindTests, lineAnswer, opened, withCoordinate, onceMore, counted, done, taken, outBy, turned, outAfter}
 use Rattle.frames.proofs.Accepted.{Opens, open-clear, line-clear}
 use Rattle.runs.specs.Runs.{State, step, after, isOpened, isSettled}
 
@@ -30,7 +29,7 @@ never e = absurd (let z : _≡_ {A = ℕ} 0 1 = cc in omega arith)
 -- at `03` and `04`: an `01` came before, and the first of them finds each coordinate given once and none beyond k
 pub record Placed (r : Reader) : Type 0 where
   pub opened : isOpened (r .phase) ≡ true
-  pub each : isSettled (r .phase) ≡ false → onceEach (r .session .k) (r .given) ≡ true
+  pub each : isSettled (r .phase) ≡ false → onceEach (r .session .plan .k) (r .given) ≡ true
   pub within : isSettled (r .phase) ≡ false → r .beyond ≡ false
 
 -- what an accepted line of a kind says
@@ -45,10 +44,10 @@ abbrev reader : Phase → Session → List ℕ → Bool → Reader
 reader ph s given beyond = record { phase = ph; session = s; given = given; beyond = beyond }
 
 -- at the first of them
-placed-now : (s : Session) (given : List ℕ) (beyond : Bool) → beyond || not (onceEach (s .k) given) ≡ false
+placed-now : (s : Session) (given : List ℕ) (beyond : Bool) → beyond || not (onceEach (s .plan .k) given) ≡ false
     → Placed (reader phase.Points s given beyond)
 placed-now s given beyond h =
-    let both = or-none beyond (not (onceEach (s .k) given)) h in
+    let both = or-none beyond (not (onceEach (s .plan .k) given)) h in
     record { opened = refl; each = λ e. not-false _ (both .1); within = λ e. both .0 }
 
 placed-before : (s : Session) (given : List ℕ) (beyond : Bool) → Placed (reader phase.Words s given beyond)
@@ -85,7 +84,7 @@ abbrev pub put : Reader → ℕ → Element → Reader
 put r i e =
     record {
       phase = r .phase;
-      session = withCoordinates (r .session) (putAt (r .session .coordinates) i e);
+      session = withCoordinate (r .session) i e;
       given = set (r .given) i (onceMore (getD (r .given) i 0));
       beyond = r .beyond;
     }
@@ -97,9 +96,9 @@ strayed r = record { phase = r .phase; session = r .session; given = r .given; b
 pub record Keeps {A : Type 0} (by : Kind → List ℕ → List A) (Inv : State → List A → Type 0) : Type 0 where
   pub opens : (s : State) (bs : List ℕ) (xs : List A) → Inv s xs → s .reader .phase ≡ phase.Start → Opens bs
       → Inv (state (opened bs) (replicate (length (s .out)) 0)) (xs ++ by kind.Open bs)
-  pub puts : (s : State) (bs : List ℕ) (xs : List A) → Inv s xs → s .reader .phase ≡ phase.Points → indexOf bs < s .reader .session .k
+  pub puts : (s : State) (bs : List ℕ) (xs : List A) → Inv s xs → s .reader .phase ≡ phase.Points → indexOf bs < s .reader .session .plan .k
       → Inv (state (put (s .reader) (indexOf bs) (coordinateOf bs)) (s .out)) (xs ++ by kind.Coordinate bs)
-  pub strays : (s : State) (bs : List ℕ) (xs : List A) → Inv s xs → s .reader .phase ≡ phase.Points → s .reader .session .k ≤ indexOf bs
+  pub strays : (s : State) (bs : List ℕ) (xs : List A) → Inv s xs → s .reader .phase ≡ phase.Points → s .reader .session .plan .k ≤ indexOf bs
       → Inv (state (strayed (s .reader)) (s .out)) (xs ++ by kind.Coordinate bs)
   pub takes : (s : State) (bs : List ℕ) (xs : List A) → Inv s xs → Placed (s .reader)
       → Inv (state (counted (s .reader) bs) (outBy kind.Words (s .reader) bs (s .out))) (xs ++ by kind.Words bs)
@@ -112,7 +111,7 @@ brings by l s = leaves (lineAnswer (s .reader) (bytesOf l)) (by (kindOf (bytesOf
 
 module _ {A : Type 0} (by : Kind → List ℕ → List A) (Inv : State → List A → Type 0) (keeps : Keeps by Inv) where
   -- it is kept by an accepted line
-  coordinate-keeps : (b : Bool) (s : State) (bs : List ℕ) (xs : List A) → ltb (indexOf bs) (s .reader .session .k) ≡ b
+  coordinate-keeps : (b : Bool) (s : State) (bs : List ℕ) (xs : List A) → ltb (indexOf bs) (s .reader .session .plan .k) ≡ b
       → s .reader .phase ≡ phase.Points → Inv s xs
       → Inv (state (cond b (put (s .reader) (indexOf bs) (coordinateOf bs)) (strayed (s .reader))) (s .out)) (xs ++ by kind.Coordinate bs)
   coordinate-keeps true s bs xs e h i = keeps .puts s bs xs i h (ltb-true _ _ e)
@@ -121,7 +120,7 @@ module _ {A : Type 0} (by : Kind → List ℕ → List A) (Inv : State → List 
   accepted-keeps : (k : Kind) (s : State) (bs : List ℕ) (xs : List A) → Says k (s .reader) bs → Inv s xs
       → Inv (state (taken k (s .reader) bs) (outBy k (s .reader) bs (s .out))) (xs ++ by k bs)
   accepted-keeps kind.Open s bs xs h i = keeps .opens s bs xs i (h .0) (h .1)
-  accepted-keeps kind.Coordinate s bs xs h i = coordinate-keeps (ltb (indexOf bs) (s .reader .session .k)) s bs xs refl h i
+  accepted-keeps kind.Coordinate s bs xs h i = coordinate-keeps (ltb (indexOf bs) (s .reader .session .plan .k)) s bs xs refl h i
   accepted-keeps kind.Words s bs xs h i = keeps .takes s bs xs i h
   accepted-keeps kind.Close s bs xs h i = keeps .closes s bs xs i h
   accepted-keeps kind.NoFrame s bs xs h i = absurd h

@@ -8,11 +8,10 @@ use lib.ListN.{length, take}
 use Rattle.multilinear.specs.declared.Side.{Side}
 use Rattle.multilinear.specs.declared.Weight.{Weight}
 use Rattle.field.specs.declared.Element.{Element}
-use Rattle.table.specs.Table.{getAt, tableWords}
+use Rattle.table.specs.Table.{getAt}
 use Rattle.table.specs.Refusals.{leaves}
+use Rattle.plan.specs.Plan.{foldOf}
 use Rattle.session.specs.declared.Session.{Session}
-use Rattle.session.specs.Session.{Args, args}
-use Rattle.session.specs.Ledger.{innerOf, ledgerAt}
 use Rattle.frame.specs.declared.Kind.{Kind}
 use Rattle.frame.specs.declared.Kind.the-variants as kind
 use Rattle.frame.specs.Hex.{bytesOf}
@@ -58,7 +57,8 @@ openingOf bs = record { side = sideOf bs; weight = weightOf bs; n = variablesOf 
 
 -- and what a session has of it
 abbrev pub heldBy : Session → Opening
-heldBy s = record { side = s .side; weight = s .weight; n = s .n; k = s .k; scale = s .scale }
+heldBy s =
+    record { side = s .plan .side; weight = s .plan .weight; n = s .plan .n; k = s .plan .k; scale = s .plan .scale }
 
 -- what lines of a kind bring
 abbrev pub openingBy : Kind → List ℕ → List Opening
@@ -110,10 +110,6 @@ isSettled phase.Points = false
 isSettled phase.Words = true
 isSettled phase.Done = true
 
--- a session as open's arguments
-abbrev pub argsOf : Session → Args
-argsOf s = args (s .n) (s .side) (s .weight) (s .scale) (take (4 * s .k) (s .coordinates))
-
 pub record Runs : Type 0 where
   -- "Just one `01` comes first": before it none was accepted
   pub unopened : (ls : List (List ℕ)) (out : List ℕ) → isOpened (after ls (start out) .reader .phase) ≡ false → openings ls (start out) ≡ []
@@ -124,13 +120,13 @@ pub record Runs : Type 0 where
   pub folds : (ls : List (List ℕ)) (out : List ℕ) → length out ≡ 4 * 2 ^ mostPlaces
       → let s = after ls (start out) in isOpened (s .reader .phase) ≡ true
       → take (used (s .reader)) (s .out)
-      ≡ tableWords (innerOf (argsOf (s .reader .session))) (ledgerAt (argsOf (s .reader .session)) (joined ls (start out)))
+      ≡ foldOf (s .reader .session .plan) (joined ls (start out))
   -- and the words taken are as many
   pub takes : (ls : List (List ℕ)) (out : List ℕ) → after ls (start out) .reader .session .taken ≡ length (joined ls (start out))
   -- from the first `03` or `04` on, each coordinate was given just once
   pub each-once : (ls : List (List ℕ)) (out : List ℕ) → isSettled (after ls (start out) .reader .phase) ≡ true
-      → (i : ℕ) → i < after ls (start out) .reader .session .k
-      → given i ls (start out) ≡ getAt (after ls (start out) .reader .session .coordinates) i ∷ []
+      → (i : ℕ) → i < after ls (start out) .reader .session .plan .k
+      → given i ls (start out) ≡ getAt (after ls (start out) .reader .session .plan .coordinates) i ∷ []
   -- and none beside them
   pub none-beyond : (ls : List (List ℕ)) (out : List ℕ) → isSettled (after ls (start out) .reader .phase) ≡ true
-      → (i : ℕ) → after ls (start out) .reader .session .k ≤ i → given i ls (start out) ≡ []
+      → (i : ℕ) → after ls (start out) .reader .session .plan .k ≤ i → given i ls (start out) ≡ []

@@ -1,74 +1,69 @@
--- What an accepted call says of its session and its operands. Assumes nothing.
+-- What accepted calls say of their operands. Assumes nothing.
 use mathlib.Core.Path.{_≡_}
-use mathlib.Core.Bool.{false}
 use Prim.Native.Nat.{ℕ, _+_, _-_, _*_, _^_, _≤_}
 use native.Mathlib.Nat.{le-trans}
 use native.Mathlib.Omega.{arith}
-use mathlib.Core.List.{List, [], _∷_, _++_}
-use lib.Dec.{ltb}
+use mathlib.Core.List.{List}
 use lib.ListN.{length}
 use lib.Pow.{pow-mono}
 use borrow.Author.Tests.{ltb-false}
-use Rattle.algebra.specs.Words.{unreduced}
-use Rattle.field.specs.Field.{p}
-use Rattle.field.specs.declared.Element.{Element}
+use Rattle.algebra.proofs.Words.{unreduced-append, unreduced-zeros}
+use Rattle.field.specs.Field.{p-pos}
 use Rattle.table.specs.Table.{entries}
-use Rattle.table.specs.Refusals.{Test, _gives_, verdict, most}
+use Rattle.table.specs.Refusals.{most}
 use Rattle.table.proofs.Tests.{whole, same}
-use Rattle.table.proofs.Verdicts.{Numbered, Clear, clear}
-use Rattle.session.specs.declared.Session.{Session}
-use Rattle.session.specs.Session.{State, openTests, feedTests, feedAnswer}
-use Rattle.session.specs.Inner.{readyTests}
+use Rattle.table.proofs.Verdicts.{Clear, clear}
+use Rattle.plan.specs.declared.Plan.{Plan}
+use Rattle.plan.specs.Plan.{places}
+use Rattle.plan.specs.Sound.{Sound, Takes}
+use Rattle.session.specs.Session.{State, Args, planned, openTests, openAnswer, feedTests, feedAnswer}
 
--- a session that is not broken
-pub record Sound (s : Session) : Type 0 where
-  pub small : s .n ≤ most
-  pub fits : s .k ≤ s .n
-  pub within : s .taken ≤ 2 ^ s .n
-  pub scale-below : unreduced p (s .scale .c) ≡ false
-  pub coordinates-below : unreduced p (s .coordinates) ≡ false
+-- out has an element for each place
+room-is : (n : ℕ) (out : List ℕ) → 4 * entries out ≡ length out → entries out ≡ n → length out ≡ 4 * n
+room-is n out e q = omega arith
 
--- the tests that feed and close share
-pub ready : (st : State) (ts : List Test) → Numbered (readyTests st ++ ts) → 0 ≡ verdict (readyTests st ++ ts) → Sound (st .session)
-ready st ts n e =
-    let h : Clear (readyTests st ++ ts) = clear (readyTests st ++ ts) n e in
+-- open: the point's words are four to an element, its plan is sound, and out has an element for each place
+pub record Opened (a : Args) (out : List ℕ) : Type 0 where
+  pub count : 4 * entries (a .point) ≡ length (a .point)
+  pub sound : Sound (planned a)
+  pub room : length out ≡ 4 * places (planned a)
+
+pub opened : (a : Args) (out : List ℕ) → 0 ≡ openAnswer a out → Opened a out
+unfolding openAnswer
+opened a out e =
+    let ts = openTests (a .n) (a .scale) (a .point) out in
+    let h : Clear ts = clear ts tt e in
+    let lengths = h .1 .1 .1 .1 in
     record {
-      small = ltb-false _ _ (h .0);
-      fits = ltb-false _ _ (h .1 .0);
-      within = ltb-false _ _ (h .1 .1 .0);
-      scale-below = h .1 .1 .1 .0;
-      coordinates-below = h .1 .1 .1 .1 .0;
+      count = whole (a .point) (h .0);
+      sound = record {
+        small = ltb-false most (a .n) (h .1 .1 .0);
+        fits = ltb-false (a .n) (entries (a .point)) (lengths .0);
+        scale-is = record { words-below = lengths .1 .1 .1 .0 };
+        coordinates-below = unreduced-append _ (a .point) _ (lengths .1 .1 .0) (unreduced-zeros _ p-pos (4 * most - length (a .point)));
+      };
+      room = room-is _ out (whole out (h .1 .0)) (same (entries out) (places (planned a)) (lengths .1 .0));
     }
 
--- open: the point has a place in the session's coordinates
-pub point-fits : (n : ℕ) (scale : Element) (point out : List ℕ) → 0 ≡ verdict (openTests n scale point out) → length point ≤ 4 * most
-point-fits n scale point out e =
-    let h : Clear (openTests n scale point out) = clear (openTests n scale point out) tt e in
-    omega (arith, whole point (h .0), ltb-false most (entries point) (h .1 .1 .1 .0))
-
--- feed: the piece fits in what is left of the table, out has an element for each place, and all is reduced
-pub record Fed (s : Session) (piece out : List ℕ) : Type 0 where
-  pub sound : Sound s
-  pub within : s .taken + length piece ≤ 2 ^ s .n
-  pub piece-below : unreduced p piece ≡ false
-  pub room : length out ≡ 4 * 2 ^ (s .n - s .k)
-  pub out-below : unreduced p out ≡ false
-
-pub fed : (st : State) (piece : List ℕ) → 0 ≡ feedAnswer st piece → Fed (st .session) piece (st .out)
+-- feed: the session takes the piece
+pub fed : (st : State) (piece : List ℕ) → 0 ≡ feedAnswer st piece → Takes (st .session .plan) (st .session .taken) piece (st .out)
 unfolding feedAnswer
 fed st piece e =
-    let s = st .session in
-    let out = st .out in
     let h : Clear (feedTests st piece) = clear (feedTests st piece) tt e in
-    let after = h .1 .1 .1 .1 .1 .1 .1 .1 in
+    let later = h .1 .1 .1 .1 .1 .1 .1 .1 in
     record {
-      sound = ready st (unreduced p piece gives 5 ∷ ltb (2 ^ s .n) (s .taken + length piece) gives 8 ∷ []) tt e;
-      within = ltb-false _ _ (after .1 .1 .1 .1 .0);
-      piece-below = after .1 .1 .1 .0;
-      room = omega (arith, whole out (after .0), same (entries out) (2 ^ (s .n - s .k)) (after .1 .0));
-      out-below = after .1 .1 .0;
+      sound = record {
+        small = ltb-false _ _ (h .0);
+        fits = ltb-false _ _ (h .1 .0);
+        scale-is = record { words-below = h .1 .1 .1 .0 };
+        coordinates-below = h .1 .1 .1 .1 .0;
+      };
+      within = ltb-false _ _ (later .1 .1 .1 .1 .0);
+      piece-below = later .1 .1 .1 .0;
+      room = room-is _ (st .out) (whole (st .out) (later .0)) (same (entries (st .out)) (places (st .session .plan)) (later .1 .0));
+      out-below = later .1 .1 .0;
     }
 
 -- so the count of words taken is far from the largest number
-pub few-taken : {s : Session} {piece out : List ℕ} → Fed s piece out → s .taken + length piece ≤ 2 ^ most
+pub few-taken : {plan : Plan} {taken : ℕ} {piece out : List ℕ} → Takes plan taken piece out → taken + length piece ≤ 2 ^ most
 few-taken d = le-trans (d .within) (pow-mono (d .sound .small))

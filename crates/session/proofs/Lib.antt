@@ -1,11 +1,8 @@
-pub mod Padding
 pub mod Scanning
-pub mod Broken
-pub mod Accepted
 pub mod Outcomes
+pub mod Held
+pub mod Accepted
 pub mod Runs
-pub mod Joining
 pub mod Ledgers
-pub mod Whole
 pub mod Unopened
 pub mod Demand3

@@ -15,9 +15,7 @@ step-refused out close = refl
 
 all-refused : (out : List ℕ) (cs : List Call) → run sessionStep cs (state noSession out) ≡ (replicate (length cs) 11, state noSession out)
 all-refused out [] = refl
-all-refused out (c ∷ cs) =
-    ap (λ (q : ℕ × State). (q .0 ∷ run sessionStep cs (q .1) .0, run sessionStep cs (q .1) .1)) (step-refused out c)
-    ∙ ap (λ (q : List ℕ × State). (11 ∷ q .0, q .1)) (all-refused out cs)
+all-refused out (c ∷ cs) = rw (step-refused out c, all-refused out cs)
 
 pub unopened : (a : Args) (out : List ℕ) → (openAnswer a out ≡ 0 → ⊥) → (cs : List Call)
     → run sessionStep cs (openLeaves a out) ≡ (replicate (length cs) 11, state noSession out)

@@ -1,5 +1,5 @@
 -- The fold session (document 01, "Fold session"; "Refused calls": Open, Feed, Close): what each call answers and leaves. Assumes nothing.
-use Prim.Native.Nat.{ℕ, suc, _+_, _-_, _*_, _^_}
+use Prim.Native.Nat.{ℕ, suc, _+_, _-_, _*_}
 use mathlib.Core.Bool.{Bool, true, false, not, _&&_, _||_}
 use mathlib.Core.List.{List, [], _∷_, _++_}
 use lib.Dec.{eqb, ltb}
@@ -9,11 +9,12 @@ use Rattle.multilinear.specs.declared.Side.{Side}
 use Rattle.multilinear.specs.declared.Side.the-variants.{Prefix}
 use Rattle.multilinear.specs.declared.Weight.{Weight}
 use Rattle.multilinear.specs.declared.Weight.the-variants.{Plain}
-use Rattle.multilinear.specs.Folds.{foldAt}
-use Rattle.field.specs.Field.{p, Ext, field, base, fromWords}
+use Rattle.field.specs.Field.{p}
 use Rattle.field.specs.declared.Element.{Element}
-use Rattle.table.specs.Table.{tableWords, elementAt, elements, entries, placed}
+use Rattle.table.specs.Table.{entries}
 use Rattle.table.specs.Refusals.{answer, Test, _gives_, verdict, leaves, most, splits, tooMany, rowsDiffer}
+use Rattle.plan.specs.declared.Plan.{Plan}
+use Rattle.plan.specs.Plan.{planOf, capacity, gainedBy}
 use Rattle.session.specs.declared.Session.{Session}
 use Rattle.session.specs.declared.Settled.{Settled}
 
@@ -40,19 +41,13 @@ pub record Args : Type 0 where
 abbrev pub args : ℕ → Side → Weight → Element → List ℕ → Args
 args n side weight scale point = record { n = n; side = side; weight = weight; scale = scale; point = point }
 
--- the record: open's arguments, 20 coordinates (unused ones 0), words taken, closed
-abbrev pub sessionOf : Args → ℕ → Bool → Session
-sessionOf a taken closed =
-    record {
-      n = a .n;
-      k = entries (a .point);
-      side = a .side;
-      weight = a .weight;
-      scale = a .scale;
-      coordinates = a .point ++ replicate (4 * most - length (a .point)) 0;
-      taken = taken;
-      closed = closed;
-    }
+-- their plan: as many coordinates as the point has, unused ones 0
+abbrev pub planned : Args → Plan
+planned a = planOf (a .n) (entries (a .point)) (a .side) (a .weight) (a .scale) (a .point)
+
+-- the record: a plan, words taken, closed
+abbrev pub sessionOf : Plan → ℕ → Bool → Session
+sessionOf plan taken closed = record { plan = plan; taken = taken; closed = closed }
 
 -- Open: 1, 3, 4 (also k above n, out), 5
 abbrev pub openTests : ℕ → Element → List ℕ → List ℕ → List Test
@@ -72,21 +67,11 @@ openAnswer a out = verdict (openTests (a .n) (a .scale) (a .point) out)
 
 -- beside a refused open: a record that no session has, n being over 20, so that every call on it is 11 (`unopened` of Demand3.antt)
 unfoldable pub noSession : Session
-noSession =
-    record {
-      n = suc most;
-      k = 0;
-      side = Prefix;
-      weight = Plain;
-      scale = record { c = 0 ∷ 0 ∷ 0 ∷ 0 ∷ [] };
-      coordinates = replicate (4 * most) 0;
-      taken = 0;
-      closed = false;
-    }
+noSession = sessionOf (planOf (suc most) 0 Prefix Plain (record { c = 0 ∷ 0 ∷ 0 ∷ 0 ∷ [] }) []) 0 false
 
 -- "Open zeroes out"
 abbrev pub opened : Args → List ℕ → State
-opened a out = state (sessionOf a 0 false) (replicate (length out) 0)
+opened a out = state (sessionOf (planned a) 0 false) (replicate (length out) 0)
 
 unfoldable pub openLeaves : Args → List ℕ → State
 openLeaves a out = leaves (openAnswer a out) (opened a out) (state noSession out)
@@ -103,13 +88,13 @@ nonzero (w ∷ ws) = not (eqb w 0) || nonzero ws
 -- 11: n over 20, k over n, taken over 2^n, a part unreduced, unused coordinate not 0, closed short of 2^n
 abbrev pub recordTests : Session → List Test
 recordTests s =
-    ltb most (s .n) gives 11
-    ∷ ltb (s .n) (s .k) gives 11
-    ∷ ltb (2 ^ s .n) (s .taken) gives 11
-    ∷ unreduced p (s .scale .c) gives 11
-    ∷ unreduced p (s .coordinates) gives 11
-    ∷ nonzero (drop (4 * s .k) (s .coordinates)) gives 11
-    ∷ (s .closed && ltb (s .taken) (2 ^ s .n)) gives 11
+    ltb most (s .plan .n) gives 11
+    ∷ ltb (s .plan .n) (s .plan .k) gives 11
+    ∷ ltb (capacity (s .plan)) (s .taken) gives 11
+    ∷ unreduced p (s .plan .scale .c) gives 11
+    ∷ unreduced p (s .plan .coordinates) gives 11
+    ∷ nonzero (drop (4 * s .plan .k) (s .plan .coordinates)) gives 11
+    ∷ (s .closed && ltb (s .taken) (capacity (s .plan))) gives 11
     ∷ []
 
 -- Feed: 11, 10, 4, 5 (piece or out), 8 (piece passes 2^n)
@@ -118,10 +103,10 @@ feedTests st piece =
     recordTests (st .session)
     ++ st .session .closed gives 10
     ∷ splits (st .out) gives 4
-    ∷ rowsDiffer (st .out) (st .session .n - st .session .k) gives 4
+    ∷ rowsDiffer (st .out) (st .session .plan .n - st .session .plan .k) gives 4
     ∷ unreduced p (st .out) gives 5
     ∷ unreduced p piece gives 5
-    ∷ ltb (2 ^ st .session .n) (st .session .taken + length piece) gives 8
+    ∷ ltb (capacity (st .session .plan)) (st .session .taken + length piece) gives 8
     ∷ []
 
 -- Close: 11, 10, 4, 5, 9 (words missing)
@@ -130,39 +115,17 @@ closeTests st =
     recordTests (st .session)
     ++ st .session .closed gives 10
     ∷ splits (st .out) gives 4
-    ∷ rowsDiffer (st .out) (st .session .n - st .session .k) gives 4
+    ∷ rowsDiffer (st .out) (st .session .plan .n - st .session .plan .k) gives 4
     ∷ unreduced p (st .out) gives 5
-    ∷ ltb (st .session .taken) (2 ^ st .session .n) gives 9
+    ∷ ltb (st .session .taken) (capacity (st .session .plan)) gives 9
     ∷ []
-
--- the same session, with so many words taken, closed or not
-abbrev pub marked : Session → ℕ → Bool → Session
-marked s taken closed =
-    record {
-      n = s .n;
-      k = s .k;
-      side = s .side;
-      weight = s .weight;
-      scale = s .scale;
-      coordinates = s .coordinates;
-      taken = taken;
-      closed = closed;
-    }
-
--- what each place gains of a piece: scale·weight·word for each word of the piece that belongs to it
-abbrev pub gainAt : Session → List ℕ → ℕ → Ext
-gainAt s piece i =
-    foldAt field (s .side) (s .weight) (2 ^ (s .n - s .k)) (elements (s .coordinates) 0 (s .k)) (fromWords (s .scale))
-    (λ t. base (placed (s .taken) piece t)) i
 
 unfoldable pub feedAnswer : State → List ℕ → ℕ
 feedAnswer st piece = verdict (feedTests st piece)
 
 -- "Feed adds scale·weight·word to each word's place and counts the words taken"
 abbrev pub fed : Session → List ℕ → List ℕ → State
-fed s piece out =
-    state (marked s (s .taken + length piece) (s .closed))
-    (tableWords (2 ^ (s .n - s .k)) (λ i. field .add (elementAt out i) (gainAt s piece i)))
+fed s piece out = state (sessionOf (s .plan) (s .taken + length piece) (s .closed)) (gainedBy (s .plan) (s .taken) piece out)
 
 unfoldable pub feedLeaves : State → List ℕ → State
 feedLeaves st piece = leaves (feedAnswer st piece) (fed (st .session) piece (st .out)) st
@@ -176,7 +139,7 @@ closeAnswer st = verdict (closeTests st)
 
 -- "Close marks it closed"
 unfoldable pub closeLeaves : State → State
-closeLeaves st = leaves (closeAnswer st) (state (marked (st .session) (st .session .taken) true) (st .out)) st
+closeLeaves st = leaves (closeAnswer st) (state (sessionOf (st .session .plan) (st .session .taken) true) (st .out)) st
 
 -- what close returns and leaves
 abbrev pub closeStep : State → ℕ × State

@@ -13,7 +13,7 @@ use Rattle.field.specs.declared.Element.{Element}
 use Rattle.field.proofs.Laws.{field-ring}
 use Rattle.table.specs.Table.{elements, tableWords}
 use Rattle.table.proofs.Laws.{elements-length, table-ext}
-use Rattle.point.specs.Inner.{Coordinates}
+use Rattle.point.specs.Coordinates.{Coordinates}
 use Rattle.work.specs.Work.{workWords}
 use Rattle.work.specs.Inner.{Tables, rowWeight}
 use Rattle.work.proofs.Weights.{tables, row-weight}

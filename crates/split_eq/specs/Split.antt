@@ -10,11 +10,14 @@ use Rattle.multilinear.specs.declared.Side.{Side}
 use Rattle.multilinear.specs.declared.Weight.{Weight}
 use Rattle.multilinear.specs.Equality.{eqAt}
 use Rattle.multilinear.specs.Successors.{lastRow}
-use Rattle.multilinear.specs.Folds.{foldAt, scaledValueAt, scaledNextValueAt}
+use Rattle.multilinear.specs.Folds.{scaledValueAt, scaledNextValueAt}
 use Rattle.field.specs.Field.{p, Ext, field, base, fromWords}
 use Rattle.field.specs.declared.Element.{Element}
 use Rattle.table.specs.Table.{tableWords, entries, elementAt, pointOf}
-use Rattle.table.specs.Refusals.{Outcome, Test, _gives_, verdict, leaves, evaluated, splits, notPower, variables, tooManyVariables, tooMany, rowsDiffer}
+use Rattle.table.specs.Refusals.{Outcome, Test, _gives_, verdict, leaves, evaluated}
+use Rattle.table.specs.Refusals.{splits, notPower, variables, tooManyVariables, tooMany, rowsDiffer}
+use Rattle.plan.specs.declared.Plan.{Plan}
+use Rattle.plan.specs.Plan.{planOf, foldOf}
 use Rattle.work.specs.Work.{workDiffers, workWords}
 
 -- both tables of the point, with the scale
@@ -54,14 +57,17 @@ foldAnswer table point scale work out = verdict (foldTests table point scale wor
 unfoldable pub foldWork : List ℕ → List ℕ → Element → List ℕ → List ℕ → List ℕ
 foldWork table point scale work out = leaves (foldAnswer table point scale work out) (bothTables point scale) work
 
+-- the plan of a fold: the table's variables, and as many coordinates as the point has
+abbrev pub foldPlan : Side → Weight → List ℕ → List ℕ → Element → Plan
+foldPlan side weight table point scale = planOf (variables (length table)) (entries point) side weight scale point
+
 -- the fold, place by place, on the prefix or the suffix side, by plain or shifted weights
 abbrev pub folded : Side → Weight → List ℕ → List ℕ → Element → List ℕ
-folded side weight table point scale =
-    tableWords (2 ^ remains table point)
-    (foldAt field side weight (2 ^ remains table point) (pointOf point) (fromWords scale) (baseAt table))
+folded side weight table point scale = foldOf (foldPlan side weight table point scale) table
 
 unfoldable pub foldOut : Side → Weight → List ℕ → List ℕ → Element → List ℕ → List ℕ → List ℕ
-foldOut side weight table point scale work out = leaves (foldAnswer table point scale work out) (folded side weight table point scale) out
+foldOut side weight table point scale work out =
+    leaves (foldAnswer table point scale work out) (folded side weight table point scale) out
 
 -- Evaluations: 1, 2, 3, 4 (also work), 5; k = n. After 1, of a table of `count` entries
 abbrev pub valueTests : ℕ → List ℕ → List ℕ → Element → List ℕ → List Test
@@ -86,12 +92,12 @@ baseAnswer table point scale work = verdict (baseTests table point scale work)
 unfoldable pub baseWork : List ℕ → List ℕ → Element → List ℕ → List ℕ
 baseWork table point scale work = leaves (baseAnswer table point scale work) (bothTables point scale) work
 
-unfoldable pub evalBaseAnswer : List ℕ → List ℕ → Element → List ℕ → Outcome
-evalBaseAnswer table point scale work =
+unfoldable pub scaledBaseAnswer : List ℕ → List ℕ → Element → List ℕ → Outcome
+scaledBaseAnswer table point scale work =
     evaluated (baseAnswer table point scale work) (scaledValueAt field (pointOf point) (fromWords scale) (baseAt table))
 
-unfoldable pub evalNextBaseAnswer : List ℕ → List ℕ → Element → List ℕ → Outcome
-evalNextBaseAnswer table point scale work =
+unfoldable pub scaledNextBaseAnswer : List ℕ → List ℕ → Element → List ℕ → Outcome
+scaledNextBaseAnswer table point scale work =
     evaluated (baseAnswer table point scale work) (scaledNextValueAt field (pointOf point) (fromWords scale) (baseAt table))
 
 -- of a table of elements
@@ -105,8 +111,8 @@ extAnswer table point scale work = verdict (extTests table point scale work)
 unfoldable pub extWork : List ℕ → List ℕ → Element → List ℕ → List ℕ
 extWork table point scale work = leaves (extAnswer table point scale work) (bothTables point scale) work
 
-unfoldable pub evalExtAnswer : List ℕ → List ℕ → Element → List ℕ → Outcome
-evalExtAnswer table point scale work =
+unfoldable pub scaledExtAnswer : List ℕ → List ℕ → Element → List ℕ → Outcome
+scaledExtAnswer table point scale work =
     evaluated (extAnswer table point scale work) (scaledValueAt field (pointOf point) (fromWords scale) (elementAt table))
 
 -- `last_scalar`: 1, 3, 4 (work), 5; scale·eq[N-1]
@@ -122,7 +128,8 @@ lastTests point scale work =
 
 unfoldable pub lastAnswer : List ℕ → Element → List ℕ → Outcome
 lastAnswer point scale work =
-    evaluated (verdict (lastTests point scale work)) (field .mul (fromWords scale) (eqAt field (pointOf point) (lastRow field (pointOf point))))
+    evaluated (verdict (lastTests point scale work))
+    (field .mul (fromWords scale) (eqAt field (pointOf point) (lastRow field (pointOf point))))
 
 unfoldable pub lastWork : List ℕ → Element → List ℕ → List ℕ
 lastWork point scale work = leaves (verdict (lastTests point scale work)) (bothTables point scale) work
@@ -155,4 +162,5 @@ unfoldable pub accumulateOut : List ℕ → Element → Element → List ℕ →
 accumulateOut point scale given work out =
     leaves (accumulateAnswer point scale given work out)
     (tableWords (2 ^ entries point)
-    (λ y. field .add (elementAt out y) (field .mul (field .mul (fromWords scale) (fromWords given)) (eqAt field (pointOf point) y)))) out
+    (λ y. field .add (elementAt out y)
+    (field .mul (field .mul (fromWords scale) (fromWords given)) (eqAt field (pointOf point) y)))) out

@@ -1,29 +1,30 @@
-// Values with a scale. A table of no variable has its constant, and the next value of one variable its entry 1, without the scale.
+// Values with a scale.
+//
+//     eval_base, eval_ext    scale sum_y eq[y] table[y]
+//     eval_next_base         scale sum_y next[y] table[y]      next[y] = eq[y - 1], and eq[y] more at the last row
+//
+// A table of no variable has its constant, and the next value of one variable its entry 1, without the scale.
+use crate::tests;
 use field::Element;
 use table::Evaluation;
-use table::Refusal;
 use table::Verdict;
 ghost use mathlib.Core.Path.{_≡_};
-ghost use lib.ListN.{getD};
 ghost use Rattle.multilinear.specs.Folds.{scaledValueAt, scaledNextValueAt};
-ghost use Rattle.field.specs.Field.{field, base, fromWords, Reduced, Holds};
+ghost use Rattle.field.specs.Field.{field, fromWords, Reduced, Holds};
 ghost use Rattle.table.specs.Table.{elementAt, elements};
-ghost use Rattle.table.specs.Refusals.{answer, outcome};
-ghost use Rattle.table.specs.Inner.{onward};
-ghost use Rattle.point.specs.Inner.{Coordinates};
+ghost use Rattle.table.specs.Refusals.{outcome};
+ghost use Rattle.point.specs.Coordinates.{Coordinates};
 ghost use Rattle.weigh.specs.Weigh.{Whole, WholeExt};
-ghost use Rattle.split_eq.specs.Split.{valueTests, baseWork, extWork, evalBaseAnswer, evalExtAnswer, evalNextBaseAnswer};
+ghost use Rattle.split_eq.specs.Split.{baseAt, baseWork, extWork};
+ghost use Rattle.split_eq.specs.Split.{scaledBaseAnswer, scaledExtAnswer, scaledNextBaseAnswer};
 ghost use Rattle.split_eq.specs.Inner.{Weighed};
 
-// scale times the value of a table of base words.
+// scale sum_y eq[y] table[y], of base words.
 pub fn eval_base(table: &[u32], point: &[u32], scale: Element, work: &mut [u32]) -> Evaluation
-    ensures { λ r. ⌜ outcome r ≡ evalBaseAnswer (now (table .entry)) (now (point .entry)) scale (now (work .entry)) ⌝ }
+    ensures { λ r. ⌜ outcome r ≡ scaledBaseAnswer (now (table .entry)) (now (point .entry)) scale (now (work .entry)) ⌝ }
     ensures { λ _. ⌜ now (work .exit) ≡ baseWork (now (table .entry)) (now (point .entry)) scale (now (work .entry)) ⌝ }
 {
-    let split = Verdict::Accepted
-        .refuse_if(table::splits(point), Refusal::Split)
-        .refuse_if(table::splits(work), Refusal::Split);
-    let tested = test_value(split, table.len(), table, point, scale, work);
+    let tested = tests::base(table, point, scale, work);
     match tested {
         Verdict::Refused(refusal) => Evaluation::Refused(refusal),
         Verdict::Accepted => {
@@ -34,16 +35,12 @@ pub fn eval_base(table: &[u32], point: &[u32], scale: Element, work: &mut [u32])
     }
 }
 
-// scale times the value of a table of elements.
+// scale sum_y eq[y] table[y], of elements.
 pub fn eval_ext(table: &[u32], point: &[u32], scale: Element, work: &mut [u32]) -> Evaluation
-    ensures { λ r. ⌜ outcome r ≡ evalExtAnswer (now (table .entry)) (now (point .entry)) scale (now (work .entry)) ⌝ }
+    ensures { λ r. ⌜ outcome r ≡ scaledExtAnswer (now (table .entry)) (now (point .entry)) scale (now (work .entry)) ⌝ }
     ensures { λ _. ⌜ now (work .exit) ≡ extWork (now (table .entry)) (now (point .entry)) scale (now (work .entry)) ⌝ }
 {
-    let split = Verdict::Accepted
-        .refuse_if(table::splits(table), Refusal::Split)
-        .refuse_if(table::splits(point), Refusal::Split)
-        .refuse_if(table::splits(work), Refusal::Split);
-    let tested = test_value(split, table.len() / 4, table, point, scale, work);
+    let tested = tests::ext(table, point, scale, work);
     match tested {
         Verdict::Refused(refusal) => Evaluation::Refused(refusal),
         Verdict::Accepted => {
@@ -54,15 +51,12 @@ pub fn eval_ext(table: &[u32], point: &[u32], scale: Element, work: &mut [u32]) 
     }
 }
 
-// scale times the sum of next[y] table[y].
+// scale sum_y next[y] table[y], of base words.
 pub fn eval_next_base(table: &[u32], point: &[u32], scale: Element, work: &mut [u32]) -> Evaluation
-    ensures { λ r. ⌜ outcome r ≡ evalNextBaseAnswer (now (table .entry)) (now (point .entry)) scale (now (work .entry)) ⌝ }
+    ensures { λ r. ⌜ outcome r ≡ scaledNextBaseAnswer (now (table .entry)) (now (point .entry)) scale (now (work .entry)) ⌝ }
     ensures { λ _. ⌜ now (work .exit) ≡ baseWork (now (table .entry)) (now (point .entry)) scale (now (work .entry)) ⌝ }
 {
-    let split = Verdict::Accepted
-        .refuse_if(table::splits(point), Refusal::Split)
-        .refuse_if(table::splits(work), Refusal::Split);
-    let tested = test_value(split, table.len(), table, point, scale, work);
+    let tested = tests::base(table, point, scale, work);
     match tested {
         Verdict::Refused(refusal) => Evaluation::Refused(refusal),
         Verdict::Accepted => {
@@ -73,31 +67,10 @@ pub fn eval_next_base(table: &[u32], point: &[u32], scale: Element, work: &mut [
     }
 }
 
-// The tests of an evaluation after 1; the table has `count` entries.
-fn test_value(
-    split: Verdict,
-    count: usize,
-    table: &[u32],
-    point: &[u32],
-    scale: Element,
-    work: &[u32],
-) -> Verdict
-    ensures { λ r. ⌜ answer r ≡ onward (answer split) (valueTests count (now (table .entry)) (now (point .entry)) scale (now (work .entry))) ⌝ }
-{
-    let k = point.len() / 4;
-    let words = scale.c;
-    split
-        .refuse_entries(count, point)
-        .refuse_if(table::variables(count) != k, Refusal::Lengths)
-        .refuse_if(work::differs(work, k), Refusal::Lengths)
-        .refuse_if(field::unreduced(table), Refusal::Unreduced)
-        .refuse_if(field::unreduced(point), Refusal::Unreduced)
-        .refuse_if(field::unreduced(&words), Refusal::Unreduced)
-}
-
 fn scaled_value(table: &[u32], point: &[u32], n: usize, scale: Element) -> Element
     requires { ⌜ (Coordinates n (now point) × Reduced scale) × Whole n (now table) ⌝ }
-    ensures { λ r. ⌜ Holds r (scaledValueAt field (elements (now (point .entry)) 0 n) (fromWords scale) (λ y. base (getD (now (table .entry)) y 0))) ⌝ }
+    ensures { λ r. ⌜ Holds r
+        (scaledValueAt field (elements (now (point .entry)) 0 n) (fromWords scale) (baseAt (now (table .entry)))) ⌝ }
 {
     if n == 0 {
         return Element::from_base(table[0]);
@@ -107,7 +80,8 @@ fn scaled_value(table: &[u32], point: &[u32], n: usize, scale: Element) -> Eleme
 
 fn scaled_value_ext(table: &[u32], point: &[u32], n: usize, scale: Element) -> Element
     requires { ⌜ (Coordinates n (now point) × Reduced scale) × WholeExt n (now table) ⌝ }
-    ensures { λ r. ⌜ Holds r (scaledValueAt field (elements (now (point .entry)) 0 n) (fromWords scale) (elementAt (now (table .entry)))) ⌝ }
+    ensures { λ r. ⌜ Holds r
+        (scaledValueAt field (elements (now (point .entry)) 0 n) (fromWords scale) (elementAt (now (table .entry)))) ⌝ }
 {
     if n == 0 {
         return table::read(table, 0);
@@ -123,8 +97,10 @@ fn scaled_next_value(
     scale: Element,
     work: &[u32],
 ) -> Element
-    requires { ⌜ (Coordinates n (now point) × Whole n (now table)) × (Reduced scale × Weighed n (now point) scale (now work)) ⌝ }
-    ensures { λ r. ⌜ Holds r (scaledNextValueAt field (elements (now (point .entry)) 0 n) (fromWords scale) (λ y. base (getD (now (table .entry)) y 0))) ⌝ }
+    requires { ⌜ (Coordinates n (now point) × Reduced scale) × Whole n (now table) ⌝ }
+    requires { ⌜ Weighed n (now point) scale (now work) ⌝ }
+    ensures { λ r. ⌜ Holds r
+        (scaledNextValueAt field (elements (now (point .entry)) 0 n) (fromWords scale) (baseAt (now (table .entry)))) ⌝ }
 {
     if n < 2 {
         return Element::from_base(table[n]);

@@ -15,10 +15,9 @@ use Rattle.table.specs.Refusals.{verdict}
 use Rattle.point.specs.Point.{tableAnswer, equalityOut, evalNextAnswer}
 use Rattle.poly.specs.Poly.{newAnswer, newOut, nextOut}
 use Rattle.poly.specs.Values.{evalBaseAnswer, evalExtAnswer, evalNextBaseAnswer}
-use Rattle.work.specs.Work.{workWords}
 use Rattle.split_eq.specs.Split.{foldAnswer, foldOut}
 use Rattle.starred.specs.Starred.{Hold, starred}
 
 pub starred-hold : Hold starred
-unfolding wordsOf numbers fromWords base constant field quartic residues reduce sumTo eqAt evalNext valueAt nextValueAt foldAt unreduced tableWords getAt elements ones onesIn trailingZeros verdict tableAnswer equalityOut evalNextAnswer newAnswer newOut nextOut evalBaseAnswer evalExtAnswer evalNextBaseAnswer workWords foldAnswer foldOut
+unfolding wordsOf numbers fromWords base constant field quartic residues reduce sumTo eqAt evalNext valueAt nextValueAt foldAt unreduced tableWords getAt elements ones onesIn trailingZeros verdict tableAnswer equalityOut evalNextAnswer newAnswer newOut nextOut evalBaseAnswer evalExtAnswer evalNextBaseAnswer foldAnswer foldOut
 starred-hold = (refl, (refl, (refl, (refl, (refl, (refl, (refl, (refl, (refl, (refl, (refl, (refl, (refl, (refl, (refl, tt)))))))))))))))

@@ -1,5 +1,5 @@
--- The starred cases of document 01, "Points and tables worked through": what the definitions give, and what the paper says. z = (2, 3);
--- f = 1, 4, 9, 16; out and work hold 7 in each word before a call. Assumes nothing.
+-- The starred cases of document 01, "Points and tables worked through": what the definitions give, and what the paper says.
+-- z = (2, 3); f = 1, 4, 9, 16; out and work hold 7 in each word before a call. Assumes nothing.
 use mathlib.Core.Path.{_≡_}
 use Prim.Native.Nat.{ℕ, _-_}
 use mathlib.Core.List.{List, [], _∷_, _++_}
@@ -51,8 +51,8 @@ minus a = number (p - a)
 abbrev z : List ℕ
 z = number 2 ++ number 3
 
-abbrev row : List ℕ
-row = number 5 ++ number 7
+abbrev other : List ℕ
+other = number 5 ++ number 7
 
 -- a table of base words
 abbrev f : List ℕ
@@ -100,7 +100,7 @@ starred =
     -- split_eq::fold::compress_suffix_shifted, point (3): -8, -32
     ∷ (folded Suffix Shifted 3 is minus 8 ++ minus 32)
     -- point::next::eval_next, z and (5, 7): carry 144, done -106, omega 210
-    ∷ (evalNextAnswer z row is accepted (number 144 ++ minus 106 ++ number 210))
+    ∷ (evalNextAnswer z other is accepted (number 144 ++ minus 106 ++ number 210))
     -- poly::new_next_from_point, then poly::value::eval_ext: the next table of z at (5, 7): 104
-    ∷ (evalExtAnswer (nextOut z (sevens 16)) row is accepted (number 104))
+    ∷ (evalExtAnswer (nextOut z (sevens 16)) other is accepted (number 104))
     ∷ []

@@ -16,7 +16,7 @@ use Rattle.field.specs.Field.{p, Ext, field, toWords, fromWords, Reduced, Holds
 use Rattle.field.specs.declared.Element.{Element}
 use Rattle.field.proofs.Laws.{field-ring, reduced, read-back, size, words-again}
 use Rattle.table.specs.Table.{getAt, putAt, elementAt, tableWords}
-use Rattle.table.specs.Inner.{Gained}
+use Rattle.table.specs.Gained.{Gained}
 use Rattle.table.proofs.Laws.{length-put, get-put-other, get-put-same, get-size, table-whole, table-ext}
 use Rattle.table.proofs.Parts.{unreduced-put, get-zeros}
 use Rattle.table.proofs.Tests.{reduced-at}
@@ -114,13 +114,13 @@ blocks from m n f g ws w w′ a b e =
         here ∙ ap₂ (λ v x. toWords (field .add (fromWords v) x)) (a .after (from + y) (omega arith)) (e (y - m) (omega arith) ∙ ap g q)
 
 -- the other elements gain zero
-pub widened : {from n m : ℕ} {f : ℕ → Ext} (g : ℕ → Ext) {ws w : List ℕ} → Gained from n f ws w → unreduced p ws ≡ false
+pub widened-to : {from n m : ℕ} {f : ℕ → Ext} (g : ℕ → Ext) {ws w : List ℕ} → Gained from n f ws w → unreduced p ws ≡ false
     → from + n ≤ m → ((y : ℕ) → y < n → f y ≡ g (from + y)) → ((y : ℕ) → y < from → g y ≡ field .zero)
-    → ((y : ℕ) → from + n ≤ y → g y ≡ field .zero) → Gained 0 m g ws w
-widened {from} {n} {m} {f} g {ws} {w} d r fits e none-before none-after =
+    → ((y : ℕ) → from + n ≤ y → y < m → g y ≡ field .zero) → Gained 0 m g ws w
+widened-to {from} {n} {m} {f} g {ws} {w} d r fits e none-before none-after =
     record {
       len = d .len;
-      gained = λ y h. rw Nat·zero-add (go y (decLt y from) (decLt y (from + n)));
+      gained = λ y h. rw Nat·zero-add (go y h (decLt y from) (decLt y (from + n)));
       before = λ y h. absurd (omega arith);
       after = λ y h. d .after y (omega arith);
       below = d .below;
@@ -131,13 +131,18 @@ widened {from} {n} {m} {f} g {ws} {w} d r fits e none-before none-after =
         k ∙ words-again (getAt ws y) (get-size ws y) (reduced-at ws r y)
         ∙ ap toWords (sym (ap (field .add (elementAt ws y)) z ∙ field-ring .add-zero (elementAt ws y)))
 
-    go : (y : ℕ) → Dec (y < from) → Dec (y < from + n) → getAt w y ≡ toWords (field .add (elementAt ws y) (g y))
-    go y (yes h) _ = same y (d .before y h) (none-before y h)
-    go y (no h) (no k) = same y (d .after y (omega arith)) (none-after y (omega arith))
-    go y (no h) (yes k) =
+    go : (y : ℕ) → y < m → Dec (y < from) → Dec (y < from + n) → getAt w y ≡ toWords (field .add (elementAt ws y) (g y))
+    go y l (yes h) _ = same y (d .before y h) (none-before y h)
+    go y l (no h) (no k) = same y (d .after y (omega arith)) (none-after y (omega arith) l)
+    go y l (no h) (yes k) =
         let q : from + (y - from) ≡ y = omega arith in
         let here = rw q at (d .gained (y - from) (omega arith)) in
         here ∙ ap (λ x. toWords (field .add (elementAt ws y) x)) (e (y - from) (omega arith) ∙ ap g q)
+
+pub widened : {from n m : ℕ} {f : ℕ → Ext} (g : ℕ → Ext) {ws w : List ℕ} → Gained from n f ws w → unreduced p ws ≡ false
+    → from + n ≤ m → ((y : ℕ) → y < n → f y ≡ g (from + y)) → ((y : ℕ) → y < from → g y ≡ field .zero)
+    → ((y : ℕ) → from + n ≤ y → g y ≡ field .zero) → Gained 0 m g ws w
+widened g d r fits e none-before none-after = widened-to g d r fits e none-before (λ y h l. none-after y h)
 
 -- words that gained from their start to their end are a table
 pub gained-table : (m : ℕ) (g : ℕ → Ext) (ws w : List ℕ) → Gained 0 m g ws w → length ws ≡ 4 * m

@@ -9,3 +9,5 @@ pub mod Outcomes
 pub mod Fronts
 pub mod Gaining
 pub mod Writing
+pub mod Says
+pub mod Copying

@@ -1,5 +1,5 @@
 -- The laws of `putAt`, `getAt` and `elements` that zeros and the parts of a list need. Assumes nothing.
-use mathlib.Core.Path.{_≡_, refl, ap, ap₂, _∙_}
+use mathlib.Core.Path.{_≡_, refl, sym, ap, ap₂, _∙_}
 use mathlib.Core.Bool.{false}
 use Prim.Native.Nat.{ℕ, zero, suc, _+_, _-_, _*_, _≤_, _<_}
 use native.Mathlib.Nat.{zero-add, add-zero, add-suc}
@@ -49,7 +49,7 @@ get-drop a i ws =
     let q3 : 4 * a + (4 * i + 3) ≡ 4 * (a + i) + 3 = omega arith in
     simp getD-drop (rw (q1, q2, q3, q0))
 
-elements-drop : (a b m : ℕ) (ws : List ℕ) → elements (drop (4 * a) ws) b m ≡ elements ws (a + b) m
+pub elements-drop : (a b m : ℕ) (ws : List ℕ) → elements (drop (4 * a) ws) b m ≡ elements ws (a + b) m
 unfolding elements
 elements-drop a b zero ws = refl
 elements-drop a b (suc m) ws =
@@ -130,6 +130,12 @@ elements-append ws a (suc m) n =
     let q : suc m + n ≡ suc (m + n) = omega arith in
     let r : suc a + m ≡ a + suc m = omega arith in
     rw q (ap (λ zs. elementAt ws a ∷ zs) (elements-append ws (suc a) m n ∙ ap (λ b. elements ws (suc a) m ++ elements ws b n) r))
+
+-- the elements in two parts, the last `low` apart
+pub elements-cut : (ws : List ℕ) (a : ℕ) {n low : ℕ} → low ≤ n → elements ws a (n - low) ++ elements ws (a + (n - low)) low ≡ elements ws a n
+elements-cut ws a {n} {low} h =
+    let q : n - low + low ≡ n = omega arith in
+    sym (elements-append ws a (n - low) low) ∙ ap (elements ws a) q
 
 -- the first elements are the same, whatever words follow
 get-front : (ws r : List ℕ) (i : ℕ) → 4 * i + 3 < length ws → getAt (ws ++ r) i ≡ getAt ws i

@@ -40,6 +40,10 @@ onward-verdict (t ∷ ts) h = go (t .holds) (t .number) h (onward-verdict ts)
 pub gone-through : (ts : List Test) → Numbered ts → {n : ℕ} → n ≡ onward 0 ts → n ≡ verdict ts
 gone-through ts h e = e ∙ onward-verdict ts h
 
+-- one test more, by what the test is: for `rw`, where a list is too long for `cc`
+pub by-test : {n : ℕ} (m k : ℕ) {b t : Bool} → n ≡ refuseIf m b k → b ≡ t → n ≡ refuseIf m t k
+by-test m k e q = cc
+
 -- a refusal that was given stays
 pub stays : {r : Refusal} {v : Verdict} → v ≡ Refused r → (test : Bool) (n : ℕ) → number r ≡ refuseIf (answer v) test n
 unfolding refuseIf

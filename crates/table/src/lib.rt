@@ -6,7 +6,7 @@ use field::Element;
 use field::Value;
 ghost use mathlib.Core.Path.{_≡_};
 ghost use mathlib.Core.Bool.{false, not};
-ghost use Prim.Native.Nat.{_+_, _-_, _*_, _^_, _≤_, _<_};
+ghost use Prim.Native.Nat.{_+_, _-_, _*_, _^_, _≤_, _<_, min};
 ghost use lib.Dec.{eqb};
 ghost use lib.ListN.{length, replicate};
 ghost use Rattle.algebra.specs.Words.{unreduced};
@@ -149,9 +149,9 @@ pub fn too_many_variables(n: usize) -> bool
     MOST < variables(n)
 }
 
-// The smaller of two numbers, a less what it is above b.
-pub fn smaller(a: usize, b: usize) -> usize
-    ensures { λ r. ⌜ r ≡ a - (a - b) ⌝ }
+// The smaller of two numbers.
+pub fn min(a: usize, b: usize) -> usize
+    ensures { λ r. ⌜ r ≡ min a b ⌝ }
 {
     if a < b { a } else { b }
 }

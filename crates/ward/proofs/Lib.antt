@@ -1,7 +1,5 @@
 mod Sizes
-mod Answers
-mod VertexOutcomes
-mod NextOutcomes
+mod Outcomes
 mod Halves
 mod FoldOutcomes
 mod Folding

@@ -1,18 +1,16 @@
 -- What the inner functions take and give. No operation that users call cites it. Assumes nothing.
 use mathlib.Core.Path.{_≡_}
-use mathlib.Core.Bool.{not}
 use Prim.Native.Nat.{ℕ, _+_, _*_, _%_, _^_, _≤_}
-use mathlib.Core.List.{List, [], _∷_}
-use lib.Dec.{eqb}
+use mathlib.Core.List.{List, _++_}
 use lib.ListN.{length}
 use Rattle.octets.specs.Octets.{words}
 use Rattle.field.specs.Field.{Reduced}
 use Rattle.field.specs.declared.Element.{Element}
-use Rattle.table.specs.Table.{entries}
-use Rattle.table.specs.Refusals.{Test, _gives_, verdict, most, notPower, tooManyVariables, tooMany}
-use Rattle.point.specs.Inner.{Coordinates}
+use Rattle.table.specs.Refusals.{Test, verdict, most}
+use Rattle.table.specs.Inner.{entryTests}
+use Rattle.point.specs.Coordinates.{Coordinates}
 use Rattle.work.specs.Work.{first, others}
-use Rattle.ward.specs.Ward.{splitsWord, splitsElement, elementsDiffer, foldAnswer}
+use Rattle.ward.specs.Ward.{foldSplits, foldAnswer}
 
 -- the bytes of at most 20 coordinates
 pub record Few (point : List ℕ) : Type 0 where
@@ -21,36 +19,7 @@ pub record Few (point : List ℕ) : Type 0 where
 
 -- the fold's tests of sizes: 1, 2, 3
 abbrev pub sizeTests : List ℕ → List ℕ → List ℕ → List ℕ → List Test
-sizeTests table point work out =
-    splitsWord table gives 1
-    ∷ splitsElement point gives 1
-    ∷ splitsElement work gives 1
-    ∷ splitsElement out gives 1
-    ∷ notPower (length (words table)) gives 2
-    ∷ tooManyVariables (length (words table)) gives 3
-    ∷ tooMany (words point) gives 3
-    ∷ []
-
--- the vertex's tests of sizes: 1, 3, 4
-abbrev pub vertexSizes : List ℕ → List ℕ → List Test
-vertexSizes point out =
-    splitsElement point gives 1
-    ∷ splitsElement out gives 1
-    ∷ tooMany (words point) gives 3
-    ∷ elementsDiffer out 1 gives 4
-    ∷ []
-
--- `eval_next`'s: 1, 3, 4
-abbrev pub nextSizes : List ℕ → List ℕ → List ℕ → List Test
-nextSizes point row out =
-    splitsElement point gives 1
-    ∷ splitsElement row gives 1
-    ∷ splitsElement out gives 1
-    ∷ tooMany (words point) gives 3
-    ∷ tooMany (words row) gives 3
-    ∷ not (eqb (entries (words point)) (entries (words row))) gives 4
-    ∷ elementsDiffer out 3 gives 4
-    ∷ []
+sizeTests table point work out = foldSplits table point work out ++ entryTests (length (words table)) (words point)
 
 -- the fold's tests of sizes hold of nothing
 pub record Sized (table point work out : List ℕ) : Type 0 where

@@ -20,11 +20,11 @@ pub extern "C" fn ward_equality_at_vertex(point: &[u8], vertex: u64, out: &mut [
 
 // out, of three elements, becomes carry, done and omega of two points.
 #[no_mangle]
-pub extern "C" fn ward_eval_next(point: &[u8], row: &[u8], out: &mut [u8]) -> u32
-    ensures { λ r. ⌜ r ≡ nextAnswer (now (point .entry)) (now (row .entry)) (now (out .entry)) ⌝ }
-    ensures { λ _. ⌜ now (out .exit) ≡ nextOut (now (point .entry)) (now (row .entry)) (now (out .entry)) ⌝ }
+pub extern "C" fn ward_eval_next(point: &[u8], other: &[u8], out: &mut [u8]) -> u32
+    ensures { λ r. ⌜ r ≡ nextAnswer (now (point .entry)) (now (other .entry)) (now (out .entry)) ⌝ }
+    ensures { λ _. ⌜ now (out .exit) ≡ nextOut (now (point .entry)) (now (other .entry)) (now (out .entry)) ⌝ }
 {
-    points::eval_next(point, row, out).answer()
+    points::eval_next(point, other, out).answer()
 }
 
 // out becomes the shifted fold over the first variables of a table; work holds both tables of the point after it.
@@ -40,11 +40,14 @@ pub extern "C" fn ward_compress_prefix_shifted(
     out: &mut [u8],
 ) -> u32
     ensures { λ r. ⌜ r
-        ≡ foldAnswer (now (table .entry)) (now (point .entry)) (scaleOf scale0 scale1 scale2 scale3) (now (work .entry)) (now (out .entry)) ⌝ }
+        ≡ foldAnswer (now (table .entry)) (now (point .entry)) (scaleOf scale0 scale1 scale2 scale3)
+        (now (work .entry)) (now (out .entry)) ⌝ }
     ensures { λ _. ⌜ now (work .exit)
-        ≡ foldWork (now (table .entry)) (now (point .entry)) (scaleOf scale0 scale1 scale2 scale3) (now (work .entry)) (now (out .entry)) ⌝ }
+        ≡ foldWork (now (table .entry)) (now (point .entry)) (scaleOf scale0 scale1 scale2 scale3)
+        (now (work .entry)) (now (out .entry)) ⌝ }
     ensures { λ _. ⌜ now (out .exit)
-        ≡ foldOut Prefix (now (table .entry)) (now (point .entry)) (scaleOf scale0 scale1 scale2 scale3) (now (work .entry)) (now (out .entry)) ⌝ }
+        ≡ foldOut Prefix (now (table .entry)) (now (point .entry)) (scaleOf scale0 scale1 scale2 scale3)
+        (now (work .entry)) (now (out .entry)) ⌝ }
 {
     let scale = Element {
         c: [scale0, scale1, scale2, scale3],
@@ -65,11 +68,14 @@ pub extern "C" fn ward_compress_suffix_shifted(
     out: &mut [u8],
 ) -> u32
     ensures { λ r. ⌜ r
-        ≡ foldAnswer (now (table .entry)) (now (point .entry)) (scaleOf scale0 scale1 scale2 scale3) (now (work .entry)) (now (out .entry)) ⌝ }
+        ≡ foldAnswer (now (table .entry)) (now (point .entry)) (scaleOf scale0 scale1 scale2 scale3)
+        (now (work .entry)) (now (out .entry)) ⌝ }
     ensures { λ _. ⌜ now (work .exit)
-        ≡ foldWork (now (table .entry)) (now (point .entry)) (scaleOf scale0 scale1 scale2 scale3) (now (work .entry)) (now (out .entry)) ⌝ }
+        ≡ foldWork (now (table .entry)) (now (point .entry)) (scaleOf scale0 scale1 scale2 scale3)
+        (now (work .entry)) (now (out .entry)) ⌝ }
     ensures { λ _. ⌜ now (out .exit)
-        ≡ foldOut Suffix (now (table .entry)) (now (point .entry)) (scaleOf scale0 scale1 scale2 scale3) (now (work .entry)) (now (out .entry)) ⌝ }
+        ≡ foldOut Suffix (now (table .entry)) (now (point .entry)) (scaleOf scale0 scale1 scale2 scale3)
+        (now (work .entry)) (now (out .entry)) ⌝ }
 {
     let scale = Element {
         c: [scale0, scale1, scale2, scale3],

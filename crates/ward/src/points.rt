@@ -1,5 +1,6 @@
 // The calls on points: at most 20 coordinates are decoded into an array of the function's own, and the word call does the rest.
 use field::Value;
+use plan::WORDS;
 use point::next::Next;
 use table::Evaluation;
 use table::Refusal;
@@ -7,12 +8,12 @@ use table::Verdict;
 ghost use mathlib.Core.Path.{_≡_};
 ghost use mathlib.Core.List.{_++_};
 ghost use Prim.Native.Nat.{_/_};
-ghost use lib.ListN.{length, take, replicate};
+ghost use lib.ListN.{length, take};
 ghost use Rattle.octets.specs.Octets.{words, octets};
 ghost use Rattle.table.specs.Refusals.{answer, valueWords, outcome, verdict};
 ghost use Rattle.point.specs.Point.{vertexAnswer as vertexOfWords, nextOutcome, evalNextAnswer as nextOfWords};
-ghost use Rattle.ward.specs.Ward.{vertexAnswer, vertexOut, nextAnswer, nextOut};
-ghost use Rattle.ward.specs.Inner.{Few, vertexSizes, nextSizes};
+ghost use Rattle.ward.specs.Ward.{vertexSizes, vertexAnswer, vertexOut, nextSizes, nextAnswer, nextOut};
+ghost use Rattle.ward.specs.Inner.{Few};
 
 pub fn equality_at_vertex(point: &[u8], vertex: usize, out: &mut [u8]) -> Verdict
     ensures { λ r. ⌜ answer r ≡ vertexAnswer (now (point .entry)) vertex (now (out .entry)) ⌝ }
@@ -34,15 +35,15 @@ pub fn equality_at_vertex(point: &[u8], vertex: usize, out: &mut [u8]) -> Verdic
     }
 }
 
-pub fn eval_next(point: &[u8], row: &[u8], out: &mut [u8]) -> Verdict
-    ensures { λ r. ⌜ answer r ≡ nextAnswer (now (point .entry)) (now (row .entry)) (now (out .entry)) ⌝ }
-    ensures { λ _. ⌜ now (out .exit) ≡ nextOut (now (point .entry)) (now (row .entry)) (now (out .entry)) ⌝ }
+pub fn eval_next(point: &[u8], other: &[u8], out: &mut [u8]) -> Verdict
+    ensures { λ r. ⌜ answer r ≡ nextAnswer (now (point .entry)) (now (other .entry)) (now (out .entry)) ⌝ }
+    ensures { λ _. ⌜ now (out .exit) ≡ nextOut (now (point .entry)) (now (other .entry)) (now (out .entry)) ⌝ }
 {
-    let tested = test_next(point, row, out);
+    let tested = test_next(point, other, out);
     match tested {
         Verdict::Refused(refusal) => Verdict::Refused(refusal),
         Verdict::Accepted => {
-            let next = next_of(point, row);
+            let next = next_of(point, other);
             match next {
                 Next::Refused(refusal) => Verdict::Refused(refusal),
                 Next::Parts { carry, done, omega } => {
@@ -66,14 +67,14 @@ fn test_vertex(point: &[u8], out: &[u8]) -> Verdict
 }
 
 // 1, 3, 4.
-fn test_next(point: &[u8], row: &[u8], out: &[u8]) -> Verdict
-    ensures { λ r. ⌜ answer r ≡ verdict (nextSizes (now (point .entry)) (now (row .entry)) (now (out .entry))) ⌝ }
+fn test_next(point: &[u8], other: &[u8], out: &[u8]) -> Verdict
+    ensures { λ r. ⌜ answer r ≡ verdict (nextSizes (now (point .entry)) (now (other .entry)) (now (out .entry))) ⌝ }
 {
     let k = point.len() / 4 / 4;
-    let m = row.len() / 4 / 4;
+    let m = other.len() / 4 / 4;
     Verdict::Accepted
         .refuse_if(point.len() % 16 != 0, Refusal::Split)
-        .refuse_if(row.len() % 16 != 0, Refusal::Split)
+        .refuse_if(other.len() % 16 != 0, Refusal::Split)
         .refuse_if(out.len() % 16 != 0, Refusal::Split)
         .refuse_if(table::MOST < k, Refusal::TooMany)
         .refuse_if(table::MOST < m, Refusal::TooMany)
@@ -90,23 +91,23 @@ fn at_vertex(point: &[u8], vertex: usize) -> Evaluation
     point::equality::equality_at_vertex(&zs[..n], vertex)
 }
 
-fn next_of(point: &[u8], row: &[u8]) -> Next
-    requires { ⌜ Few (now point) × Few (now row) ⌝ }
-    ensures { λ r. ⌜ nextOutcome r ≡ nextOfWords (words (now (point .entry))) (words (now (row .entry))) ⌝ }
+fn next_of(point: &[u8], other: &[u8]) -> Next
+    requires { ⌜ Few (now point) × Few (now other) ⌝ }
+    ensures { λ r. ⌜ nextOutcome r ≡ nextOfWords (words (now (point .entry))) (words (now (other .entry))) ⌝ }
 {
     let n = point.len() / 4;
-    let m = row.len() / 4;
+    let m = other.len() / 4;
     let zs = coordinates(point);
-    let ys = coordinates(row);
+    let ys = coordinates(other);
     point::next::eval_next(&zs[..n], &ys[..m])
 }
 
 // The words of at most 20 coordinates, and zeros after them.
-pub fn coordinates(point: &[u8]) -> [u32; 80]
+pub fn coordinates(point: &[u8]) -> [u32; WORDS]
     requires { ⌜ Few (now point) ⌝ }
     ensures { λ r. ⌜ take (length (now (point .entry)) / 4) r ≡ words (now (point .entry)) ⌝ }
 {
-    let mut zs = room();
+    let mut zs = plan::room();
     let n = point.len() / 4;
     octets::decode(point, 0, &mut zs[..n]);
     zs
@@ -139,10 +140,4 @@ fn put_parts(out: &mut [u8], carry: Value, done: Value, omega: Value)
         omega.c3,
     ];
     octets::encode(&ws, out);
-}
-
-fn room() -> [u32; 80]
-    ensures { λ r. ⌜ r ≡ replicate 80 0 ⌝ }
-{
-    [0u32; 80]
 }

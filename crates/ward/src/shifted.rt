@@ -2,6 +2,7 @@
 use crate::points;
 use field::Element;
 use multilinear::Side;
+use multilinear::Weight;
 use table::Refusal;
 use table::Verdict;
 ghost use mathlib.Core.Path.{_≡_};
@@ -24,9 +25,12 @@ pub fn compress(
     work: &mut [u8],
     out: &mut [u8],
 ) -> Verdict
-    ensures { λ r. ⌜ answer r ≡ foldAnswer (now (table .entry)) (now (point .entry)) scale (now (work .entry)) (now (out .entry)) ⌝ }
-    ensures { λ _. ⌜ now (work .exit) ≡ foldWork (now (table .entry)) (now (point .entry)) scale (now (work .entry)) (now (out .entry)) ⌝ }
-    ensures { λ _. ⌜ now (out .exit) ≡ foldOut side (now (table .entry)) (now (point .entry)) scale (now (work .entry)) (now (out .entry)) ⌝ }
+    ensures { λ r. ⌜ answer r
+        ≡ foldAnswer (now (table .entry)) (now (point .entry)) scale (now (work .entry)) (now (out .entry)) ⌝ }
+    ensures { λ _. ⌜ now (work .exit)
+        ≡ foldWork (now (table .entry)) (now (point .entry)) scale (now (work .entry)) (now (out .entry)) ⌝ }
+    ensures { λ _. ⌜ now (out .exit)
+        ≡ foldOut side (now (table .entry)) (now (point .entry)) scale (now (work .entry)) (now (out .entry)) ⌝ }
 {
     let tested = test(table, point, scale, work, out);
     match tested {
@@ -39,7 +43,8 @@ pub fn compress(
 }
 
 fn test(table: &[u8], point: &[u8], scale: Element, work: &[u8], out: &[u8]) -> Verdict
-    ensures { λ r. ⌜ answer r ≡ foldAnswer (now (table .entry)) (now (point .entry)) scale (now (work .entry)) (now (out .entry)) ⌝ }
+    ensures { λ r. ⌜ answer r
+        ≡ foldAnswer (now (table .entry)) (now (point .entry)) scale (now (work .entry)) (now (out .entry)) ⌝ }
 {
     let tested = test_sizes(table, point, work, out);
     match tested {
@@ -50,7 +55,8 @@ fn test(table: &[u8], point: &[u8], scale: Element, work: &[u8], out: &[u8]) -> 
 
 // 1, 2, 3.
 fn test_sizes(table: &[u8], point: &[u8], work: &[u8], out: &[u8]) -> Verdict
-    ensures { λ r. ⌜ answer r ≡ verdict (sizeTests (now (table .entry)) (now (point .entry)) (now (work .entry)) (now (out .entry))) ⌝ }
+    ensures { λ r. ⌜ answer r
+        ≡ verdict (sizeTests (now (table .entry)) (now (point .entry)) (now (work .entry)) (now (out .entry))) ⌝ }
 {
     let count = table.len() / 4;
     Verdict::Accepted
@@ -66,7 +72,8 @@ fn test_sizes(table: &[u8], point: &[u8], work: &[u8], out: &[u8]) -> Verdict
 // 4, 5.
 fn test_rest(table: &[u8], point: &[u8], scale: Element, work: &[u8], out: &[u8]) -> Verdict
     requires { ⌜ Sized (now table) (now point) (now work) (now out) ⌝ }
-    ensures { λ r. ⌜ answer r ≡ foldAnswer (now (table .entry)) (now (point .entry)) scale (now (work .entry)) (now (out .entry)) ⌝ }
+    ensures { λ r. ⌜ answer r
+        ≡ foldAnswer (now (table .entry)) (now (point .entry)) scale (now (work .entry)) (now (out .entry)) ⌝ }
 {
     let n = table::variables(table.len() / 4);
     let k = point.len() / 4 / 4;
@@ -97,14 +104,19 @@ fn is_unreduced(bytes: &[u8]) -> bool
 fn fold(side: Side, table: &[u8], point: &[u8], scale: Element, work: &mut [u8], out: &mut [u8])
     requires { ⌜ Accepts (now table) (now point) scale (now work) (now out) ⌝ }
     ensures { λ _. ⌜ now (work .exit) ≡ octets (bothTables (words (now (point .entry))) scale) ⌝ }
-    ensures { λ _. ⌜ now (out .exit) ≡ octets (folded side Shifted (words (now (table .entry))) (words (now (point .entry))) scale) ⌝ }
+    ensures { λ _. ⌜ now (out .exit)
+        ≡ octets (folded side Shifted (words (now (table .entry))) (words (now (point .entry))) scale) ⌝ }
 {
     let n = table::variables(table.len() / 4);
     let k = point.len() / 4 / 4;
     let len = point.len() / 4;
     let zs = points::coordinates(point);
     fill(work, &zs[..len], k, scale);
-    byte_fold::compress_shifted(side, table, &zs[..len], n, k, scale, out);
+    byte_fold::compress(
+        plan::new(n, k, side, Weight::Shifted, scale, &zs[..len]),
+        table,
+        out,
+    );
 }
 
 // Both tables of the point, as bytes.

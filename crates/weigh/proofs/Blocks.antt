@@ -15,22 +15,17 @@ use Rattle.field.proofs.Laws.{read-back}
 use Rattle.table.specs.Table.{elements, tableWords}
 use Rattle.table.proofs.Laws.{table-get, table-length}
 use Rattle.table.proofs.Tests.{unreduced-table}
-use Rattle.point.specs.Inner.{Coordinates, Follows}
-use Rattle.weigh.specs.Weigh.{Room, Block}
-use Rattle.weigh.proofs.Splitting.{few-rows}
+use Rattle.point.specs.Inner.{Follows}
+use Rattle.point.specs.Coordinates.{Coordinates}
+use Rattle.weigh.specs.Weigh.{BlockRoom, Block}
 
--- cleared words
-cleared : {low size : ℕ} {ws : List ℕ} → 4 * 2 ^ low ≤ size → ws ≡ replicate size 0 → Room low ws
-cleared {low} {size} h e =
-    record { enough = rw (e, length-replicate {A = ℕ} size 0) h; below = rw e (unreduced-zeros p p-pos size) }
+-- cleared words for a block of at most so many variables
+pub cleared : (most : ℕ) {low : ℕ} {ws : List ℕ} → low ≤ most → ws ≡ replicate (4 * 2 ^ most) 0 → BlockRoom low ws
+cleared most {low} few e =
+    let m : 2 ^ low ≤ 2 ^ most = pow-mono few in
+    record { enough = rw (e, length-replicate {A = ℕ} (4 * 2 ^ most) 0) (omega arith); below = rw e (unreduced-zeros p p-pos (4 * 2 ^ most)) }
 
-pub block-cleared : {low : ℕ} {ws : List ℕ} → low ≤ 8 → ws ≡ replicate 1024 0 → Room low ws
-block-cleared {low} few = cleared {size = 1024} (omega (arith, few-rows low few))
-
-pub small-cleared : {low : ℕ} {ws : List ℕ} → low ≤ 2 → ws ≡ replicate 16 0 → Room low ws
-small-cleared {low} few = let m : 2 ^ low ≤ 2 ^ 2 = pow-mono few in cleared {size = 16} (omega arith)
-
-module _ (point : List ℕ) (high low rows : ℕ) (scale : Element) (room : List ℕ) (is : Room low room) (e : rows ≡ 2 ^ low) where
+module _ (point : List ℕ) (high low rows : ℕ) (scale : Element) (room : List ℕ) (is : BlockRoom low room) (e : rows ≡ 2 ^ low) where
   pub fitting : 4 * rows ≤ length room
   fitting = omega (arith, e, is .enough)
 

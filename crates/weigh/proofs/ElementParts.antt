@@ -5,18 +5,18 @@ use native.Mathlib.Nat.{zero-add}
 use native.Mathlib.Omega.{arith}
 use mathlib.Core.List.{List}
 use lib.ListN.{length, take}
+use lib.Pow.{pow-mono}
 use Rattle.algebra.specs.Ring.{Ops}
 use Rattle.algebra.specs.Sum.{sumTo}
-use Rattle.multilinear.specs.Values.{valueAt}
 use Rattle.multilinear.specs.Beside.{line}
 use Rattle.field.specs.Field.{field, fromWords, Holds}
 use Rattle.field.specs.declared.Element.{Element}
-use Rattle.table.specs.Table.{elementAt, elements}
+use Rattle.table.specs.Table.{elementAt}
 use Rattle.table.proofs.Parts.{rest}
-use Rattle.kernel.specs.Kernel.{Pairs}
-use Rattle.weigh.specs.Weigh.{PartsExt, blockSumExt}
+use Rattle.dots.specs.Dots.{Pairs}
+use Rattle.weigh.specs.Weigh.{PartsExt, blockSumExt, partValueExt}
 use Rattle.weigh.proofs.TableHalves.{half-there-ext, low-whole-ext, high-whole-ext, low-element, high-element}
-use Rattle.weigh.proofs.Splitting.{few-rows, one-block, more, fewer, joined}
+use Rattle.weigh.proofs.Splitting.{one-block, more, fewer, joined}
 
 module _ {point ws block : List ℕ} {i high low : ℕ} (parts : PartsExt i high low point ws block) where
   module _ (none : high ≡ 0) (rows : ℕ) (e : rows ≡ 2 ^ low) where
@@ -24,7 +24,7 @@ module _ {point ws block : List ℕ} {i high low : ℕ} (parts : PartsExt i high
     pairs =
         let count : length ws ≡ 4 * 2 ^ low = rw (none, zero-add) at (parts .entries-are .count) in
         record {
-          few = omega (arith, e, few-rows low (parts .small));
+          few = omega (arith, e, pow-mono (parts .small));
           weights-there = omega (arith, e, parts .room);
           entries-there = omega (arith, e, count);
           weights-below = parts .below;
@@ -32,7 +32,7 @@ module _ {point ws block : List ℕ} {i high low : ℕ} (parts : PartsExt i high
         }
 
     pub paired : {x : Element} → Holds x (sumTo field rows (λ y. field .mul (elementAt block y) (elementAt ws y)))
-        → Holds x (valueAt field (elements point i high) (blockSumExt low block ws))
+        → Holds x (partValueExt i high low point ws block)
     unfolding blockSumExt
     paired d = one-block point block i high low (elementAt ws) none (rw e at d)
 
@@ -64,10 +64,10 @@ module _ {point ws block : List ℕ} {i high low : ℕ} (parts : PartsExt i high
         }
 
     pub elements-joined : {at0 at1 r x : Element}
-        → Holds at0 (valueAt field (elements point (i + 1) (high - 1)) (blockSumExt low block (take (4 * half) ws)))
-        → Holds at1 (valueAt field (elements point (i + 1) (high - 1)) (blockSumExt low block (rest half ws)))
+        → Holds at0 (partValueExt (i + 1) (high - 1) low point (take (4 * half) ws) block)
+        → Holds at1 (partValueExt (i + 1) (high - 1) low point (rest half ws) block)
         → Holds r (elementAt point i) → Holds x (line field (fromWords at0) (fromWords at1) (fromWords r))
-        → Holds x (valueAt field (elements point i high) (blockSumExt low block ws))
+        → Holds x (partValueExt i high low point ws block)
     unfolding blockSumExt
     elements-joined =
         joined point block i high low left (elementAt ws) (elementAt (take (4 * half) ws)) (elementAt (rest half ws))

@@ -14,8 +14,8 @@ use Rattle.field.proofs.Laws.{holds, read-as}
 use Rattle.table.specs.Table.{getAt, elementAt, elements}
 use Rattle.table.proofs.Parts.{after, rest}
 use Rattle.table.proofs.Writing.{Written}
-use Rattle.point.specs.Inner.{Coordinates}
-use Rattle.weigh.specs.Weigh.{Whole, WholeExt, Raised, Ready}
+use Rattle.point.specs.Coordinates.{Coordinates}
+use Rattle.weigh.specs.Weigh.{Whole, WholeExt, Raised, Ready, wordsValue, elementsValue}
 use Rattle.weigh.proofs.Halving.{one-entry, joined}
 use Rattle.weigh.proofs.TableHalves.{low-word, high-word, low-element, high-element}
 
@@ -61,18 +61,18 @@ on-line a b d-r d-d d = rw (read-as _ d-r, read-as _ d-d) at d
 
 module _ {n m half : ℕ} (e : n ≡ suc m) (h : half ≡ 2 ^ m) (point : List ℕ) (i : ℕ) where
   pub words-joined : {words : List ℕ} → Whole n words → {at0 at1 x : Element}
-      → Holds at0 (valueAt field (elements point (i + 1) m) (λ y. base (getD (take half words) y 0)))
-      → Holds at1 (valueAt field (elements point (i + 1) m) (λ y. base (getD (after half words) y 0)))
+      → Holds at0 (wordsValue (i + 1) m point (take half words))
+      → Holds at1 (wordsValue (i + 1) m point (after half words))
       → Holds x (line field (fromWords at0) (fromWords at1) (elementAt point i))
-      → Holds x (valueAt field (elements point i n) (λ y. base (getD words y 0)))
+      → Holds x (wordsValue i n point words)
   words-joined {words} w =
       joined point i e (λ y. base (getD words y 0)) _ _ (λ y b. ap base (low-word e h w y b)) (λ y b. ap base (high-word e h w y))
 
   pub elements-joined : {ws : List ℕ} → WholeExt n ws → {at0 at1 x : Element}
-      → Holds at0 (valueAt field (elements point (i + 1) m) (elementAt (take (4 * half) ws)))
-      → Holds at1 (valueAt field (elements point (i + 1) m) (elementAt (rest half ws)))
+      → Holds at0 (elementsValue (i + 1) m point (take (4 * half) ws))
+      → Holds at1 (elementsValue (i + 1) m point (rest half ws))
       → Holds x (line field (fromWords at0) (fromWords at1) (elementAt point i))
-      → Holds x (valueAt field (elements point i n) (elementAt ws))
+      → Holds x (elementsValue i n point ws)
   elements-joined {ws} w = joined point i e (elementAt ws) _ _ (low-element e h w) (λ y b. high-element e h w y)
 
 -- the entries of a table, and those of a pair
@@ -87,4 +87,5 @@ module _ {n : ℕ} {ws : List ℕ} (w : WholeExt n ws) where
 pub pair-joined : (point : List ℕ) (i : ℕ) {n : ℕ} → n ≡ 1 → (f : ℕ → Ext) {at0 at1 x : Element} → Holds at0 (f 0) → Holds at1 (f 1)
     → Holds x (line field (fromWords at0) (fromWords at1) (elementAt point i)) → Holds x (valueAt field (elements point i n) f)
 pair-joined point i e f d0 d1 =
-    joined point i e f f (λ y. f (1 + y)) (λ y b. refl) (λ y b. refl) (one-entry point (i + 1) f refl d0) (one-entry point (i + 1) (λ y. f (1 + y)) refl d1)
+    joined point i e f f (λ y. f (1 + y)) (λ y b. refl) (λ y b. refl) (one-entry point (i + 1) f refl d0)
+    (one-entry point (i + 1) (λ y. f (1 + y)) refl d1)

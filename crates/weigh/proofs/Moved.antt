@@ -9,14 +9,14 @@ use Rattle.algebra.specs.Ring.{Ops}
 use Rattle.algebra.proofs.Words.{below}
 use Rattle.multilinear.specs.Equality.{eqAt}
 use Rattle.multilinear.specs.Successors.{lastRow}
-use Rattle.multilinear.specs.Values.{valueAt, nextValueAt}
+use Rattle.multilinear.specs.Values.{nextValueAt}
 use Rattle.multilinear.proofs.Folds.{next-value-moved}
 use Rattle.field.specs.Field.{p, p-pos, Ext, field, base}
 use Rattle.field.proofs.Laws.{field-ring, base-zero}
 use Rattle.table.specs.Table.{elements}
 use Rattle.table.proofs.Laws.{elements-length}
 use Rattle.table.proofs.Parts.{after, after-length, after-below, after-word}
-use Rattle.weigh.specs.Weigh.{Row, Whole}
+use Rattle.weigh.specs.Weigh.{NearlyWhole, Whole, wordsValue}
 
 module _ {n : ℕ} {table : List ℕ} (w : Whole n table) where
   pub some : 0 < length table
@@ -26,7 +26,7 @@ module _ {n : ℕ} {table : List ℕ} (w : Whole n table) where
   word-below = below p table (w .below) p-pos
 
   -- the words from the second on: the last row's is missing
-  pub later : Row n (after 1 table)
+  pub later : NearlyWhole n (after 1 table)
   later =
       let l : length (after 1 table) ≡ length table - 1 = after-length 1 table in
       record { fits = omega (arith, w .count); there = omega (arith, w .count); below = after-below 1 table (w .below) }
@@ -46,7 +46,7 @@ module _ {n : ℕ} {table : List ℕ} (w : Whole n table) where
 
     -- the words one row later, against eq
     abbrev pub moved : Ext
-    moved = valueAt field zs (λ y. base (getD (after 1 table) y 0))
+    moved = wordsValue 0 n point (after 1 table)
 
     pub next-is : nextValueAt field zs (λ y. base (getD table y 0))
         ≡ field .add moved

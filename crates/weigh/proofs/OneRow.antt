@@ -4,37 +4,26 @@ use Prim.Native.Nat.{ℕ, suc, _+_, _-_, _*_, _/_, _%_, _^_, _≤_, _<_}
 use native.Mathlib.Decide.{decLt}
 use native.Mathlib.Nat.{add-mul, mul-assoc, mul-le-mul-right, div-add-mod'}
 use native.Mathlib.Omega.{arith}
-use mathlib.Core.List.{List, _++_}
+use mathlib.Core.List.{List}
 use lib.ListN.{length}
 use lib.Pow.{pow-add}
 use Rattle.algebra.specs.Ring.{Ops}
-use Rattle.algebra.specs.Sum.{sumTo}
-use Rattle.algebra.proofs.Ring.{zero-add, mul-zero}
-use Rattle.algebra.proofs.Sums.{sum-ext, sum-middle}
+use Rattle.algebra.proofs.Sums.{sum-ext}
 use Rattle.multilinear.specs.Equality.{eqAt}
 use Rattle.multilinear.specs.Values.{valueAt}
 use Rattle.multilinear.proofs.Values.{value-ext, value-split}
+use Rattle.multilinear.proofs.Rows.{value-row}
 use Rattle.field.specs.Field.{Ext, field, base, fromWords, Holds}
 use Rattle.field.specs.declared.Element.{Element}
 use Rattle.field.proofs.Laws.{field-ring, read-as}
 use Rattle.table.specs.Table.{elementAt, elements, placed}
 use Rattle.table.proofs.Laws.{elements-length}
-use Rattle.table.proofs.Parts.{rest, rest-length, rest-below, rest-elements, elements-append}
+use Rattle.table.proofs.Parts.{rest, rest-length, rest-below, rest-elements, elements-cut}
 use Rattle.table.proofs.Placed.{placed-before, placed-word, placed-after}
-use Rattle.point.specs.Inner.{Coordinates}
-use Rattle.weigh.specs.Weigh.{Parts, InRow, blockSum}
+use Rattle.point.specs.Coordinates.{Coordinates}
+use Rattle.weigh.specs.Weigh.{Parts, InRow, blockSum, partValue}
 use Rattle.weigh.proofs.Splitting.{within}
 use Rattle.weigh.proofs.WordParts.{no-words}
-
--- a table that is 0 outside one row
-value-row : (zs : List Ext) (f : ℕ → Ext) (row : ℕ) → row < 2 ^ length zs → ((h : ℕ) → h < row → f h ≡ field .zero)
-    → ((h : ℕ) → row + 1 ≤ h → f h ≡ field .zero) → valueAt field zs f ≡ field .mul (eqAt field zs row) (f row)
-unfolding valueAt sumTo
-value-row zs f row b before after =
-    sum-middle field-ring (2 ^ length zs) row 1 (λ y. field .mul (eqAt field zs y) (f y)) (omega arith)
-    (λ y h. ap (field .mul (eqAt field zs y)) (before y h) ∙ mul-zero field-ring _)
-    (λ y h. ap (field .mul (eqAt field zs y)) (after y h) ∙ mul-zero field-ring _)
-    ∙ zero-add field-ring _ ∙ ap (λ n. field .mul (eqAt field zs n) (f n)) (omega arith)
 
 -- words that stand a rows further
 placed-further : (a from : ℕ) (words : List ℕ) (y : ℕ) → placed (a + from) words (a + y) ≡ placed from words y
@@ -88,11 +77,6 @@ module _ {point words block : List ℕ} {i high own low from : ℕ} (parts : Par
 
   abbrev vs : List Ext
   vs = elements point (i + (high - own)) own
-
-  all : us ++ vs ≡ elements point i high
-  all =
-      let q : high - own + own ≡ high = omega (arith, is .own-fits) in
-      sym (elements-append point i (high - own) own) ∙ ap (elements point i) q
 
   row-there : row < 2 ^ length us
   row-there = rw (elements-length point i (high - own)) (go (decLt row (2 ^ (high - own))))
@@ -152,14 +136,14 @@ module _ {point words block : List ℕ} {i high own low from : ℕ} (parts : Par
   empty-row : (h : ℕ) → ((t : ℕ) → t < rows → placed from words (h * rows + t) ≡ 0) → rowAt h ≡ field .zero
   empty-row h q = row-value h (λ t. 0) q ∙ no-words low block vs (λ t. 0) (λ t. refl)
 
-  value-is : valueAt field (elements point i high) (blockSum low block (placed from words))
-      ≡ field .mul (eqAt field us row) (valueAt field vs (blockSum low block (placed start words)))
+  value-is : partValue i high low from point words block
+      ≡ field .mul (eqAt field us row) (partValue (i + (high - own)) own low start point words block)
   value-is =
-      ap (λ zs. valueAt field zs (blockSum low block (placed from words))) (sym all) ∙ sym (value-split field-ring us vs _)
-      ∙ value-row us rowAt row row-there (λ h l. empty-row h (λ t b. early h t l b)) (λ h l. empty-row h (λ t b. late h t l))
+      ap (λ zs. valueAt field zs (blockSum low block (placed from words))) (sym (elements-cut point i (is .own-fits))) ∙ sym (value-split field-ring us vs _)
+      ∙ value-row field-ring us rowAt row row-there (λ h l. empty-row h (λ t b. early h t l b)) (λ h l. empty-row h (λ t b. late h t l))
       ∙ ap (field .mul (eqAt field us row)) (row-value row (placed start words) (λ t b. own-row t))
 
   pub in-row : {eq sum x : Element} → Holds eq (eqAt field (elements (rest i point) 0 (high - own)) row)
-      → Holds sum (valueAt field vs (blockSum low block (placed start words))) → Holds x (field .mul (fromWords eq) (fromWords sum))
-      → Holds x (valueAt field (elements point i high) (blockSum low block (placed from words)))
+      → Holds sum (partValue (i + (high - own)) own low start point words block) → Holds x (field .mul (fromWords eq) (fromWords sum))
+      → Holds x (partValue i high low from point words block)
   in-row d-eq d-sum d = rw value-is (rw (read-as _ d-eq, read-as _ d-sum, rest-elements i point (high - own)) at d)

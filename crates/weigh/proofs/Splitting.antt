@@ -5,7 +5,7 @@ use Prim.Native.Nat.{ℕ, suc, _+_, _-_, _*_, _^_, _≤_, _<_}
 use native.Mathlib.Nat.{add-mul, mul-le-mul-right}
 use native.Mathlib.Omega.{arith}
 use mathlib.Core.List.{List}
-use lib.Pow.{pow-add, pow-mono}
+use lib.Pow.{pow-add}
 use Rattle.algebra.specs.Ring.{Ops}
 use Rattle.algebra.specs.Sum.{sumTo}
 use Rattle.algebra.proofs.Sums.{sum-ext}
@@ -15,16 +15,12 @@ use Rattle.field.specs.Field.{Ext, field, fromWords, Holds}
 use Rattle.field.specs.declared.Element.{Element}
 use Rattle.field.proofs.Laws.{field-ring, read-as}
 use Rattle.table.specs.Table.{elementAt, elements}
-use Rattle.point.specs.Inner.{Coordinates}
+use Rattle.point.specs.Coordinates.{Coordinates}
 use Rattle.weigh.proofs.Halving.{one-more, twice-half, one-entry, joined as halves-joined}
 
 -- block h of the rows f, summed against the block's table
 abbrev pub against : ℕ → List ℕ → (ℕ → Ext) → ℕ → Ext
 against low block f h = sumTo field (2 ^ low) (λ l. field .mul (elementAt block l) (f (h * 2 ^ low + l)))
-
--- the rows of a block are few
-pub few-rows : (low : ℕ) → low ≤ 8 → 2 ^ low ≤ 256
-few-rows low few = let m : 2 ^ low ≤ 2 ^ 8 = pow-mono few in omega arith
 
 -- row l of block h is among the rows
 pub within : (n low h l : ℕ) → h < 2 ^ n → l < 2 ^ low → h * 2 ^ low + l < 2 ^ (n + low)

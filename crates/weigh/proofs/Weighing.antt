@@ -1,24 +1,25 @@
 -- The sums by blocks of scale·eq make scale times the value, and with a scale of one the value. Assumes nothing.
-use mathlib.Core.Path.{_≡_, sym, ap, _∙_}
-use Prim.Native.Nat.{ℕ, _+_, _-_, _*_, _^_, _≤_}
+use mathlib.Core.Path.{_≡_, ap}
+use Prim.Native.Nat.{ℕ, _+_, _-_, _≤_}
 use native.Mathlib.Nat.{zero-add}
 use native.Mathlib.Omega.{arith}
 use mathlib.Core.List.{List, _++_}
-use lib.ListN.{length, getD}
-use Rattle.algebra.specs.Ring.{Ops, CommRing}
+use lib.ListN.{length}
+use Rattle.algebra.specs.Ring.{Ops}
 use Rattle.algebra.proofs.Ring.{one-mul}
 use Rattle.multilinear.specs.Values.{valueAt}
-use Rattle.multilinear.proofs.Halves.{sum-scaled}
-use Rattle.multilinear.proofs.Values.{value-ext, value-scale, value-split}
+use Rattle.multilinear.proofs.Values.{value-ext}
+use Rattle.multilinear.proofs.Rows.{value-blocks}
 use Rattle.field.specs.Field.{Ext, field, base, fromWords, Holds}
 use Rattle.field.specs.declared.Element.{Element}
 use Rattle.field.proofs.Laws.{field-ring, read-as}
 use Rattle.table.specs.Table.{elementAt, elements, placed}
 use Rattle.table.proofs.Laws.{elements-length}
-use Rattle.table.proofs.Parts.{elements-append}
+use Rattle.table.proofs.Parts.{elements-cut}
 use Rattle.table.proofs.Placed.{placed-zero}
-use Rattle.point.specs.Inner.{Coordinates}
-use Rattle.weigh.specs.Weigh.{Row, WholeExt, Block, Parts, PartsExt, blockSum, blockSumExt}
+use Rattle.point.specs.Coordinates.{Coordinates}
+use Rattle.weigh.specs.Weigh.{blockVariables, NearlyWhole, WholeExt, Block, Parts, PartsExt, blockSum, blockSumExt}
+use Rattle.weigh.specs.Weigh.{wordsValue, elementsValue, partValue, partValueExt}
 use Rattle.weigh.proofs.Splitting.{against}
 
 module _ {k low : ℕ} (there : low ≤ k) where
@@ -32,8 +33,8 @@ module _ {k low : ℕ} (there : low ≤ k) where
   coordinates c = rw together c
 
   module _ {point block : List ℕ} {s : Ext} (b : Block (k - low) low point s block) where
-    module _ (small : low ≤ 8) (c : Coordinates k point) where
-      pub word-parts : {words : List ℕ} → Row k words → Parts 0 (k - low) low 0 point words block
+    module _ (small : low ≤ blockVariables) (c : Coordinates k point) where
+      pub word-parts : {words : List ℕ} → NearlyWhole k words → Parts 0 (k - low) low 0 point words block
       word-parts r =
           record {
             point-is = rw from-first c;
@@ -55,23 +56,13 @@ module _ {k low : ℕ} (there : low ≤ k) where
     vs = elements point (k - low) low
 
     whole : us ++ vs ≡ elements point 0 k
-    whole =
-        ap (λ a. us ++ elements point a low) (sym (zero-add (k - low))) ∙ sym (elements-append point 0 (k - low) low)
-        ∙ ap (elements point 0) together
+    whole = rw zero-add at (elements-cut point 0 there)
 
-    module _ (f : ℕ → Ext) where
-      -- a block's sum is scale times the value of the block
-      block-value : (h : ℕ) → against low block f h ≡ field .mul s (valueAt field vs (λ l. f (h * 2 ^ length vs + l)))
-      unfolding valueAt
-      block-value h =
-          rw (elements-length point (k - low) low)
-          (sum-scaled field-ring (2 ^ low) _ _ s
-          (λ l c. ap (λ e. field .mul e (f (h * 2 ^ low + l))) (b .holds l c) ∙ CommRing.mul-assoc field-ring _ _ _))
-
-      weighed : valueAt field us (against low block f) ≡ field .mul s (valueAt field (elements point 0 k) f)
-      weighed =
-          value-ext field-ring us _ _ (λ h c. block-value h) ∙ value-scale field-ring us s _
-          ∙ ap (field .mul s) (value-split field-ring us vs f ∙ ap (λ zs. valueAt field zs f) whole)
+    weighed : (f : ℕ → Ext) → valueAt field us (against low block f) ≡ field .mul s (valueAt field (elements point 0 k) f)
+    weighed f =
+        rw whole at
+        (rw (elements-length point (k - low) low) at (value-blocks field-ring us vs s (elementAt block) f))
+        (b .holds)
 
     -- for the words of any rows
     pub weighed-words : (word : ℕ → ℕ)
@@ -79,16 +70,16 @@ module _ {k low : ℕ} (there : low ≤ k) where
     unfolding blockSum
     weighed-words word = weighed (λ y. base (word y))
 
-    pub weighed-row : (words : List ℕ) {x : Element} → Holds x (valueAt field us (blockSum low block (placed 0 words)))
-        → Holds x (field .mul s (valueAt field (elements point 0 k) (λ y. base (getD words y 0))))
+    pub weighed-row : (words : List ℕ) {x : Element} → Holds x (partValue 0 (k - low) low 0 point words block)
+        → Holds x (field .mul s (wordsValue 0 k point words))
     weighed-row words d =
         rw (
           weighed-words (placed 0 words),
           value-ext field-ring (elements point 0 k) _ _ (λ y c. ap base (placed-zero words y)),
         ) at d
 
-    pub weighed-elements : (ws : List ℕ) {x : Element} → Holds x (valueAt field us (blockSumExt low block ws))
-        → Holds x (field .mul s (valueAt field (elements point 0 k) (elementAt ws)))
+    pub weighed-elements : (ws : List ℕ) {x : Element} → Holds x (partValueExt 0 (k - low) low point ws block)
+        → Holds x (field .mul s (elementsValue 0 k point ws))
     unfolding blockSumExt
     weighed-elements ws d = rw (weighed (elementAt ws)) at d
 

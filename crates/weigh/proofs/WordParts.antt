@@ -1,10 +1,11 @@
 -- What `part`, `trimmed` and `halves` lend their calls, and what they give. Assumes nothing.
 use mathlib.Core.Path.{_≡_, sym, ap, ap₂, _∙_}
-use Prim.Native.Nat.{ℕ, _+_, _-_, _*_, _^_, _≤_}
+use Prim.Native.Nat.{ℕ, min, _+_, _-_, _*_, _^_, _≤_}
 use native.Mathlib.Nat.{zero-add}
 use native.Mathlib.Omega.{arith}
 use mathlib.Core.List.{List}
 use lib.ListN.{length, getD, take, drop, length-drop}
+use lib.Pow.{pow-mono}
 use lib.Seq.{length-take-le}
 use Rattle.algebra.specs.Ring.{Ops}
 use Rattle.algebra.specs.Sum.{sumTo}
@@ -20,9 +21,9 @@ use Rattle.field.proofs.Laws.{field-ring, base-zero}
 use Rattle.table.specs.Table.{getAt, elementAt, elements, placed}
 use Rattle.table.proofs.Parts.{after, after-length, after-below, get-lent}
 use Rattle.table.proofs.Placed.{placed-before, placed-word, placed-after, placed-none, placed-low, placed-high}
-use Rattle.kernel.specs.Kernel.{Dots}
-use Rattle.weigh.specs.Weigh.{Parts, blockSum}
-use Rattle.weigh.proofs.Splitting.{few-rows, one-block, twice, fewer, joined}
+use Rattle.dots.specs.Dots.{Dots}
+use Rattle.weigh.specs.Weigh.{blockVariables, Parts, blockSum, partValue}
+use Rattle.weigh.proofs.Splitting.{one-block, twice, fewer, joined}
 
 -- a row of 0 adds nothing
 pub absent : (e : Ext) {w : ℕ} → w ≡ 0 → field .mul e (base w) ≡ field .zero
@@ -41,10 +42,14 @@ no-words low block zs word e =
 pub left-over : (a b s c : ℕ) {n : ℕ} → s ≤ a → c ≤ b → a + b ≤ s + c + n → a - s + (b - c) ≤ n
 left-over a b s c h k m = omega arith
 
+-- the smaller of two numbers as a difference
+less : (a b n : ℕ) → n ≡ min a b → n ≡ a - (a - b)
+less a b n e = omega (arith, e)
+
 module _ {point words block : List ℕ} {i high low from : ℕ} (parts : Parts i high low from point words block) where
   -- no word is there
   pub nothing : length words ≡ 0 → {x : Element} → Holds x (field .zero)
-      → Holds x (valueAt field (elements point i high) (blockSum low block (placed from words)))
+      → Holds x (partValue i high low from point words block)
   nothing e d = rw (no-words low block (elements point i high) (placed from words) (placed-none from words e)) d
 
   -- no coordinate is left: a weight for each word that is there
@@ -52,8 +57,8 @@ module _ {point words block : List ℕ} {i high low from : ℕ} (parts : Parts i
     pub few-words : from + length words ≤ 2 ^ low
     few-words = rw (none, zero-add) at (parts .fits)
 
-    pub few : from + length words ≤ 256
-    few = omega (arith, few-words, few-rows low (parts .small))
+    pub few : from + length words ≤ 2 ^ blockVariables
+    few = omega (arith, few-words, pow-mono (parts .small))
 
     abbrev weights : List ℕ
     weights = take (4 * from + 4 * length words - 4 * from) (drop (4 * from) block)
@@ -92,13 +97,13 @@ module _ {point words block : List ℕ} {i high low from : ℕ} (parts : Parts i
         (λ y b. absent (elementAt block y) (placed-after from words y b)))
 
     pub dotted : {x : Element} → Holds x (sumTo field (length words) (λ y. field .mul (elementAt weights y) (base (getD words y 0))))
-        → Holds x (valueAt field (elements point i high) (blockSum low block (placed from words)))
+        → Holds x (partValue i high low from point words block)
     unfolding blockSum
     dotted d = one-block point block i high low (λ y. base (placed from words y)) none (rw all-rows at d)
 
   -- the words of the halves, the first `cut` of them in the low half, where they stand from row `start` on
-  module _ (left : high ≡ 0 → ⊥) (half : ℕ) (e : half ≡ 2 ^ (high - 1 + low)) (start cut : ℕ) (s : start ≡ from - (from - half))
-      (c : cut ≡ length words - (length words - (half - start))) where
+  module _ (left : high ≡ 0 → ⊥) (half : ℕ) (e : half ≡ 2 ^ (high - 1 + low)) (start cut : ℕ) (s : start ≡ min from half)
+      (c : cut ≡ min (length words) (half - start)) where
     cut-there : cut ≤ length words
     cut-there = omega (arith, c)
 
@@ -128,13 +133,15 @@ module _ {point words block : List ℕ} {i high low from : ℕ} (parts : Parts i
         }
 
     pub words-joined : {at0 at1 r x : Element}
-        → Holds at0 (valueAt field (elements point (i + 1) (high - 1)) (blockSum low block (placed start (take cut words))))
-        → Holds at1 (valueAt field (elements point (i + 1) (high - 1)) (blockSum low block (placed (from - start) (after cut words))))
+        → Holds at0 (partValue (i + 1) (high - 1) low start point (take cut words) block)
+        → Holds at1 (partValue (i + 1) (high - 1) low (from - start) point (after cut words) block)
         → Holds r (elementAt point i) → Holds x (line field (fromWords at0) (fromWords at1) (fromWords r))
-        → Holds x (valueAt field (elements point i high) (blockSum low block (placed from words)))
+        → Holds x (partValue i high low from point words block)
     unfolding blockSum
     words-joined =
+        let s′ = less from half start s in
+        let c′ = less (length words) (half - start) cut c in
         joined point block i high low left (λ y. base (placed from words y)) (λ y. base (placed start (take cut words) y))
         (λ y. base (placed (from - start) (after cut words) y))
-        (λ y b. ap base (placed-low half from words start cut s c y (omega (arith, e))))
-        (λ y b. ap base (placed-high half from words start cut s c y ∙ ap (λ n. placed from words (n + y)) e))
+        (λ y b. ap base (placed-low half from words start cut s′ c′ y (rw e b)))
+        (λ y b. ap base (placed-high half from words start cut s′ c′ y ∙ ap (λ n. placed from words (n + y)) e))

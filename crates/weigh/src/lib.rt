@@ -10,17 +10,17 @@ mod small;
 
 use field::Element;
 ghost use mathlib.Core.Path.{_≡_};
-ghost use Prim.Native.Nat.{_+_, _^_, _%_, _≤_};
+ghost use Prim.Native.Nat.{_+_, _*_, _^_, _%_, _≤_};
 ghost use lib.Dec.{ltb};
-ghost use lib.ListN.{getD, replicate};
+ghost use lib.ListN.{replicate};
 ghost use Rattle.algebra.specs.Ring.{Ops};
-ghost use Rattle.multilinear.specs.Values.{valueAt};
 ghost use Rattle.multilinear.specs.Beside.{line};
-ghost use Rattle.field.specs.Field.{field, base, fromWords, Reduced, Holds};
-ghost use Rattle.table.specs.Table.{elementAt, elements, placed};
+ghost use Rattle.field.specs.Field.{field, fromWords, Reduced, Holds};
 ghost use Rattle.table.specs.Refusals.{most};
-ghost use Rattle.point.specs.Inner.{Coordinates};
-ghost use Rattle.weigh.specs.Weigh.{Row, Whole, WholeExt, Room, Block, Parts, InRow, PartsExt, blockSum, blockSumExt};
+ghost use Rattle.point.specs.Coordinates.{Coordinates};
+ghost use Rattle.weigh.specs.Weigh.{blockVariables, smallBlockVariables, NearlyWhole, Whole, WholeExt};
+ghost use Rattle.weigh.specs.Weigh.{BlockRoom, Block, Parts, InRow, PartsExt};
+ghost use Rattle.weigh.specs.Weigh.{wordsValue, elementsValue, partValue, partValueExt};
 
 // The most variables of a block.
 pub const BLOCK: usize = 8;
@@ -28,10 +28,15 @@ pub const BLOCK: usize = 8;
 // The most variables of a small block.
 pub const SMALL_BLOCK: usize = 2;
 
+// The words of a block's table, and of a small one's.
+const BLOCK_WORDS: usize = 4 << BLOCK;
+
+const SMALL_BLOCK_WORDS: usize = 4 << SMALL_BLOCK;
+
 // The value of a table of base words.
 pub fn value(words: &[u32], point: &[u32], n: usize) -> Element
     requires { ⌜ Coordinates n (now point) × Whole n (now words) ⌝ }
-    ensures { λ r. ⌜ Holds r (valueAt field (elements (now (point .entry)) 0 n) (λ y. base (getD (now (words .entry)) y 0))) ⌝ }
+    ensures { λ r. ⌜ Holds r (wordsValue 0 n (now (point .entry)) (now (words .entry))) ⌝ }
 {
     if n <= BLOCK {
         let raised = small::raised(point, n);
@@ -44,7 +49,7 @@ pub fn value(words: &[u32], point: &[u32], n: usize) -> Element
 // The value of a table of elements.
 pub fn value_ext(entries: &[u32], point: &[u32], n: usize) -> Element
     requires { ⌜ Coordinates n (now point) × WholeExt n (now entries) ⌝ }
-    ensures { λ r. ⌜ Holds r (valueAt field (elements (now (point .entry)) 0 n) (elementAt (now (entries .entry)))) ⌝ }
+    ensures { λ r. ⌜ Holds r (elementsValue 0 n (now (point .entry)) (now (entries .entry))) ⌝ }
 {
     if n <= BLOCK {
         let raised = small::raised(point, n);
@@ -56,8 +61,8 @@ pub fn value_ext(entries: &[u32], point: &[u32], n: usize) -> Element
 
 // scale times the sum of eq[y] words[y] over the rows of k coordinates. The last row's word may be missing, and counts as 0.
 pub fn weigh(words: &[u32], point: &[u32], k: usize, scale: Element) -> Element
-    requires { ⌜ (Coordinates k (now point) × Reduced scale) × Row k (now words) ⌝ }
-    ensures { λ r. ⌜ Holds r (field .mul (fromWords scale) (valueAt field (elements (now (point .entry)) 0 k) (λ y. base (getD (now (words .entry)) y 0)))) ⌝ }
+    requires { ⌜ (Coordinates k (now point) × Reduced scale) × NearlyWhole k (now words) ⌝ }
+    ensures { λ r. ⌜ Holds r (field .mul (fromWords scale) (wordsValue 0 k (now (point .entry)) (now (words .entry)))) ⌝ }
 {
     let low = lowest(k);
     let block = block_of(point, k - low, low, scale);
@@ -67,7 +72,7 @@ pub fn weigh(words: &[u32], point: &[u32], k: usize, scale: Element) -> Element
 // The same of a table of elements, each of them there.
 pub fn weigh_ext(entries: &[u32], point: &[u32], k: usize, scale: Element) -> Element
     requires { ⌜ (Coordinates k (now point) × Reduced scale) × WholeExt k (now entries) ⌝ }
-    ensures { λ r. ⌜ Holds r (field .mul (fromWords scale) (valueAt field (elements (now (point .entry)) 0 k) (elementAt (now (entries .entry))))) ⌝ }
+    ensures { λ r. ⌜ Holds r (field .mul (fromWords scale) (elementsValue 0 k (now (point .entry)) (now (entries .entry)))) ⌝ }
 {
     let low = lowest(k);
     let block = block_of(point, k - low, low, scale);
@@ -76,14 +81,14 @@ pub fn weigh_ext(entries: &[u32], point: &[u32], k: usize, scale: Element) -> El
 
 // How many of k variables are a block's.
 pub fn lowest(k: usize) -> usize
-    ensures { λ r. ⌜ (r ≤ k) × (r ≤ 8) ⌝ }
+    ensures { λ r. ⌜ (r ≤ k) × (r ≤ blockVariables) ⌝ }
 {
-    if k < BLOCK { k } else { BLOCK }
+    table::min(k, BLOCK)
 }
 
 // The table of scale eq of the low coordinates that follow the first high ones.
-pub fn block_of(point: &[u32], high: usize, low: usize, scale: Element) -> [u32; 1024]
-    requires { ⌜ (Coordinates (high + low) (now point) × Reduced scale) × (low ≤ 8) ⌝ }
+pub fn block_of(point: &[u32], high: usize, low: usize, scale: Element) -> [u32; BLOCK_WORDS]
+    requires { ⌜ (Coordinates (high + low) (now point) × Reduced scale) × (low ≤ blockVariables) ⌝ }
     ensures { λ r. ⌜ Block high low (now (point .entry)) (fromWords scale) r ⌝ }
 {
     let mut block = block_room();
@@ -92,8 +97,13 @@ pub fn block_of(point: &[u32], high: usize, low: usize, scale: Element) -> [u32;
 }
 
 // The same for a small block: there is less to clear.
-pub fn small_block_of(point: &[u32], high: usize, low: usize, scale: Element) -> [u32; 16]
-    requires { ⌜ (Coordinates (high + low) (now point) × Reduced scale) × (low ≤ 2) ⌝ }
+pub fn small_block_of(
+    point: &[u32],
+    high: usize,
+    low: usize,
+    scale: Element,
+) -> [u32; SMALL_BLOCK_WORDS]
+    requires { ⌜ (Coordinates (high + low) (now point) × Reduced scale) × (low ≤ smallBlockVariables) ⌝ }
     ensures { λ r. ⌜ Block high low (now (point .entry)) (fromWords scale) r ⌝ }
 {
     let mut block = small_room();
@@ -102,23 +112,23 @@ pub fn small_block_of(point: &[u32], high: usize, low: usize, scale: Element) ->
 }
 
 fn fill_block(block: &mut [u32], point: &[u32], high: usize, low: usize, scale: Element)
-    requires { ⌜ (Coordinates (high + low) (now point) × Reduced scale) × Room low (now block) ⌝ }
+    requires { ⌜ (Coordinates (high + low) (now point) × Reduced scale) × BlockRoom low (now block) ⌝ }
     ensures { λ _. ⌜ Block high low (now (point .entry)) (fromWords scale) (now (block .exit)) ⌝ }
 {
     let words = 4 * table::rows(low);
     point::equality::fill_last(&mut block[..words], point, high, low, scale);
 }
 
-fn block_room() -> [u32; 1024]
-    ensures { λ r. ⌜ r ≡ replicate 1024 0 ⌝ }
+fn block_room() -> [u32; BLOCK_WORDS]
+    ensures { λ r. ⌜ r ≡ replicate (4 * 2 ^ blockVariables) 0 ⌝ }
 {
-    [0u32; 1024]
+    [0u32; BLOCK_WORDS]
 }
 
-fn small_room() -> [u32; 16]
-    ensures { λ r. ⌜ r ≡ replicate 16 0 ⌝ }
+fn small_room() -> [u32; SMALL_BLOCK_WORDS]
+    ensures { λ r. ⌜ r ≡ replicate (4 * 2 ^ smallBlockVariables) 0 ⌝ }
 {
-    [0u32; 16]
+    [0u32; SMALL_BLOCK_WORDS]
 }
 
 // The value, at the coordinates i to i + high - 1, of the sums of the blocks against the block's table. The words stand at the rows
@@ -133,13 +143,13 @@ pub fn part(
     block: &[u32],
 ) -> Element
     requires { ⌜ Parts i high low from (now point) (now words) (now block) ⌝ }
-    ensures { λ r. ⌜ Holds r (valueAt field (elements (now (point .entry)) i high) (blockSum low (now (block .entry)) (placed from (now (words .entry))))) ⌝ }
+    ensures { λ r. ⌜ Holds r (partValue i high low from (now (point .entry)) (now (words .entry)) (now (block .entry))) ⌝ }
 {
     if high == 0 {
         if words.len() <= 4 {
             let start = 4 * from;
             let end = start + 4 * words.len();
-            return kernel::dot_few(&block[start..end], words);
+            return dots::dot_few(&block[start..end], words);
         }
     }
     trimmed(words, from, point, i, high, low, block)
@@ -156,7 +166,7 @@ fn trimmed(
     block: &[u32],
 ) -> Element
     requires { ⌜ Parts i high low from (now point) (now words) (now block) ⌝ }
-    ensures { λ r. ⌜ Holds r (valueAt field (elements (now (point .entry)) i high) (blockSum low (now (block .entry)) (placed from (now (words .entry))))) ⌝ }
+    ensures { λ r. ⌜ Holds r (partValue i high low from (now (point .entry)) (now (words .entry)) (now (block .entry))) ⌝ }
 {
     if words.len() == 0 {
         return Element::zero();
@@ -201,7 +211,7 @@ fn in_row(
     block: &[u32],
 ) -> Element
     requires { ⌜ Parts i high low from (now point) (now words) (now block) × InRow high own low from (now words) ⌝ }
-    ensures { λ r. ⌜ Holds r (valueAt field (elements (now (point .entry)) i high) (blockSum low (now (block .entry)) (placed from (now (words .entry))))) ⌝ }
+    ensures { λ r. ⌜ Holds r (partValue i high low from (now (point .entry)) (now (words .entry)) (now (block .entry))) ⌝ }
 {
     let rows = table::rows(own + low);
     let first = 4 * i;
@@ -221,18 +231,18 @@ fn halves(
     block: &[u32],
 ) -> Element
     requires { ⌜ Parts i high low from (now point) (now words) (now block) ⌝ }
-    ensures { λ r. ⌜ Holds r (valueAt field (elements (now (point .entry)) i high) (blockSum low (now (block .entry)) (placed from (now (words .entry))))) ⌝ }
+    ensures { λ r. ⌜ Holds r (partValue i high low from (now (point .entry)) (now (words .entry)) (now (block .entry))) ⌝ }
 {
     if words.len() == 0 {
         Element::zero()
     } else if high == 0 {
         let start = 4 * from;
         let end = start + 4 * words.len();
-        kernel::dot(&block[start..end], words)
+        dots::dot(&block[start..end], words)
     } else {
         let half = table::rows(high - 1 + low);
-        let from0 = table::smaller(from, half);
-        let cut = table::smaller(words.len(), half - from0);
+        let from0 = table::min(from, half);
+        let cut = table::min(words.len(), half - from0);
         let at0 = halves(&words[..cut], from0, point, i + 1, high - 1, low, block);
         let at1 = halves(
             &words[cut..],
@@ -257,10 +267,10 @@ fn halves_ext(
     block: &[u32],
 ) -> Element
     requires { ⌜ PartsExt i high low (now point) (now entries) (now block) ⌝ }
-    ensures { λ r. ⌜ Holds r (valueAt field (elements (now (point .entry)) i high) (blockSumExt low (now (block .entry)) (now (entries .entry)))) ⌝ }
+    ensures { λ r. ⌜ Holds r (partValueExt i high low (now (point .entry)) (now (entries .entry)) (now (block .entry))) ⌝ }
 {
     if high == 0 {
-        kernel::dot_ext(block, entries, table::rows(low))
+        dots::dot_ext(block, entries, table::rows(low))
     } else {
         let half = 4 * table::rows(high - 1 + low);
         let at0 = halves_ext(&entries[..half], point, i + 1, high - 1, low, block);

@@ -6,17 +6,19 @@ use field::Element;
 use field::multiplier;
 ghost use mathlib.Core.Path.{_≡_};
 ghost use Prim.Native.Nat.{_*_, _≤_};
-ghost use lib.ListN.{length, getD, replicate};
-ghost use Rattle.multilinear.specs.Values.{valueAt};
+ghost use lib.ListN.{length, replicate};
 ghost use Rattle.multilinear.specs.Beside.{line};
-ghost use Rattle.field.specs.Field.{field, base, fromWords, Reduced, Holds};
-ghost use Rattle.table.specs.Table.{elementAt, elements};
-ghost use Rattle.point.specs.Inner.{Coordinates};
-ghost use Rattle.weigh.specs.Weigh.{Whole, WholeExt, Raised, Ready};
+ghost use Rattle.field.specs.Field.{field, fromWords, Reduced, Holds};
+ghost use Rattle.table.specs.Table.{elementAt};
+ghost use Rattle.point.specs.Coordinates.{Coordinates};
+ghost use Rattle.weigh.specs.Weigh.{blockVariables, Whole, WholeExt, Raised, Ready, wordsValue, elementsValue};
+
+// The words of the coordinates of the largest table that this module takes.
+const RAISED_WORDS: usize = 4 * crate::BLOCK;
 
 // The n coordinates times X^4.
-pub fn raised(point: &[u32], n: usize) -> [u32; 32]
-    requires { ⌜ Coordinates n (now point) × (n ≤ 8) ⌝ }
+pub fn raised(point: &[u32], n: usize) -> [u32; RAISED_WORDS]
+    requires { ⌜ Coordinates n (now point) × (n ≤ blockVariables) ⌝ }
     ensures { λ r. ⌜ Raised n (now (point .entry)) r ⌝ }
 {
     let mut out = room();
@@ -24,10 +26,10 @@ pub fn raised(point: &[u32], n: usize) -> [u32; 32]
     out
 }
 
-fn room() -> [u32; 32]
-    ensures { λ r. ⌜ r ≡ replicate 32 0 ⌝ }
+fn room() -> [u32; RAISED_WORDS]
+    ensures { λ r. ⌜ r ≡ replicate (4 * blockVariables) 0 ⌝ }
 {
-    [0u32; 32]
+    [0u32; RAISED_WORDS]
 }
 
 fn raise(out: &mut [u32], point: &[u32], n: usize)
@@ -43,7 +45,7 @@ fn raise(out: &mut [u32], point: &[u32], n: usize)
 // The value of the words at the coordinates i to i + n - 1. A pair, or two, cost less than the calls for them would.
 pub fn halves(words: &[u32], point: &[u32], raised: &[u32], i: usize, n: usize) -> Element
     requires { ⌜ Ready i n (now point) (now raised) × Whole n (now words) ⌝ }
-    ensures { λ r. ⌜ Holds r (valueAt field (elements (now (point .entry)) i n) (λ y. base (getD (now (words .entry)) y 0))) ⌝ }
+    ensures { λ r. ⌜ Holds r (wordsValue i n (now (point .entry)) (now (words .entry))) ⌝ }
 {
     if n == 0 {
         Element::from_base(words[0])
@@ -62,7 +64,7 @@ pub fn halves(words: &[u32], point: &[u32], raised: &[u32], i: usize, n: usize) 
 // The same of two pairs.
 fn two_pairs(words: &[u32], point: &[u32], raised: &[u32], i: usize) -> Element
     requires { ⌜ Ready i 2 (now point) (now raised) × Whole 2 (now words) ⌝ }
-    ensures { λ r. ⌜ Holds r (valueAt field (elements (now (point .entry)) i 2) (λ y. base (getD (now (words .entry)) y 0))) ⌝ }
+    ensures { λ r. ⌜ Holds r (wordsValue i 2 (now (point .entry)) (now (words .entry))) ⌝ }
 {
     let at0 = pair(&words[..2], point, raised, i + 1);
     let at1 = pair(&words[2..], point, raised, i + 1);
@@ -72,7 +74,7 @@ fn two_pairs(words: &[u32], point: &[u32], raised: &[u32], i: usize) -> Element
 // The same of a pair.
 fn pair(words: &[u32], point: &[u32], raised: &[u32], i: usize) -> Element
     requires { ⌜ Ready i 1 (now point) (now raised) × Whole 1 (now words) ⌝ }
-    ensures { λ r. ⌜ Holds r (valueAt field (elements (now (point .entry)) i 1) (λ y. base (getD (now (words .entry)) y 0))) ⌝ }
+    ensures { λ r. ⌜ Holds r (wordsValue i 1 (now (point .entry)) (now (words .entry))) ⌝ }
 {
     let at0 = Element::from_base(words[0]);
     let at1 = Element::from_base(words[1]);
@@ -82,7 +84,7 @@ fn pair(words: &[u32], point: &[u32], raised: &[u32], i: usize) -> Element
 // The same of a table of elements.
 pub fn halves_ext(entries: &[u32], point: &[u32], raised: &[u32], i: usize, n: usize) -> Element
     requires { ⌜ Ready i n (now point) (now raised) × WholeExt n (now entries) ⌝ }
-    ensures { λ r. ⌜ Holds r (valueAt field (elements (now (point .entry)) i n) (elementAt (now (entries .entry)))) ⌝ }
+    ensures { λ r. ⌜ Holds r (elementsValue i n (now (point .entry)) (now (entries .entry))) ⌝ }
 {
     if n == 0 {
         table::read(entries, 0)

@@ -8,11 +8,11 @@ use Rattle.algebra.specs.Ring.{Ops, CommRing}
 use Rattle.field.specs.Field.{Ext, field, fromWords, Holds}
 use Rattle.field.specs.declared.Element.{Element}
 use Rattle.field.proofs.Laws.{field-ring, read-as}
-use Rattle.table.specs.Table.{elementAt, tableWords}
-use Rattle.table.specs.Inner.{Gained}
+use Rattle.table.specs.Table.{elementAt}
+use Rattle.table.specs.Gained.{Gained}
 use Rattle.table.proofs.Gaining.{none, blocks, gained-table}
 use Rattle.work.specs.Work.{first, others}
-use Rattle.work.specs.Inner.{Tables, rowWeight, Open, Block}
+use Rattle.work.specs.Inner.{Tables, rowWeight, accumulated, Open, Block}
 use Rattle.work.proofs.Weights.{rows-of, edge, block-weight}
 
 -- what row y gains
@@ -60,6 +60,6 @@ module _ (k : ℕ) (work : List ℕ) (given : Element) where
             weight y l = rw (q0, q1) (sym (block-weight k h y work (omega arith)))
 
     pub finish : (h : ℕ) {ws w : List ℕ} → Blocks k work given n1 h ws w → h ≡ n0 → Open k ws
-        → w ≡ tableWords (2 ^ k) (λ y. field .add (elementAt ws y) (gainAt k work given y))
+        → w ≡ accumulated k work (fromWords given) ws
     finish h {ws} {w} d z rows =
         gained-table (2 ^ k) (gainAt k work given) ws w (rw (z, q0, q1, rows-of k) at d) (rows .room)

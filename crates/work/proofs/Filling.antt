@@ -15,7 +15,8 @@ use Rattle.field.proofs.Laws.{field-ring, read-as}
 use Rattle.table.specs.Table.{elements, tableWords}
 use Rattle.table.proofs.Laws.{table-ext}
 use Rattle.table.proofs.Parts.{both-parts, part-length}
-use Rattle.point.specs.Inner.{Coordinates, Fits, Follows}
+use Rattle.point.specs.Inner.{Fits, Follows}
+use Rattle.point.specs.Coordinates.{Coordinates}
 use Rattle.work.specs.Work.{first, others, workWords}
 use Rattle.work.specs.Inner.{Sized}
 use Rattle.work.proofs.Weights.{together}

@@ -1,5 +1,3 @@
 pub mod Weights
 mod Filling
 mod Accumulating
-mod Folding
-mod Folded

@@ -1,4 +1,5 @@
--- The work buffer (document 01, "Split folds"): eq0 takes the first floor(k/2) coordinates and the scale, eq1 the others. Assumes nothing.
+-- The work buffer (document 01, "Split folds"): eq0 takes the first floor(k/2) coordinates and the scale, eq1 the others.
+-- Assumes nothing.
 use Prim.Native.Nat.{ℕ, _+_, _-_, _/_, _^_}
 use mathlib.Core.Bool.{Bool, not}
 use mathlib.Core.List.{List, _++_}

@@ -12,23 +12,39 @@ fn two() -> Element {
 }
 
 pub fn run() {
+    prefix();
+    suffix();
+    monomial();
+    sum();
+    constant();
+}
+
+fn prefix() {
     let mut table = f();
     print::text(b"f fixed by 2 at the first variable:");
     let answer = fixing::fix_prefix_var_mut(&mut table, two());
     remaining(answer, &table);
+}
+
+fn suffix() {
     let mut table = f();
     print::text(b"f fixed by 2 at the last variable:");
     let answer = fixing::fix_suffix_var_mut(&mut table, two());
     remaining(answer, &table);
+}
+
+fn monomial() {
     let mut table = f();
     print::text(b"f fixed by 2, monomial:");
     let answer = fixing::fix_prefix_var_mut_monomial(&mut table, two());
     remaining(answer, &table);
+}
+
+fn sum() {
     let mut table = f();
     print::text(b"f summed:");
     let answer = fixing::sum_prefix_var_mut(&mut table);
     remaining(answer, &table);
-    constant();
 }
 
 // A constant is refused, and comes back from a sum.

@@ -1,4 +1,5 @@
 // Document 01's worked examples, run through the code: a line for each, its name and the words that the code gives.
+mod calls;
 mod elements;
 mod fixed;
 mod folds;

@@ -67,11 +67,11 @@ fn batch() {
 
 fn pairs() {
     let z = z();
-    let row = [5, 0, 0, 0, 7, 0, 0, 0];
+    let other = [5, 0, 0, 0, 7, 0, 0, 0];
     print::text(b"eval_eq of z and (5, 7):");
-    print::evaluation(point::next::eval_eq(&z, &row));
+    print::evaluation(point::next::eval_eq(&z, &other));
     print::text(b"eval_next of z and (5, 7):");
-    match point::next::eval_next(&z, &row) {
+    match point::next::eval_next(&z, &other) {
         Next::Refused(refusal) => print::refused(refusal),
         Next::Parts { carry, done, omega } => {
             print::value(carry);

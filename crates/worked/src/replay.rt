@@ -4,6 +4,7 @@
 //
 // and before the call out holds 7 in each of its words. From operation 11 on b is two slices and out is work and then out: the number is
 // the words of the first of them and, times 65536, those of work. From 23 on work is the table that a call changes, and b is it before.
+use crate::calls;
 use crate::print;
 use libc::STDIN_FILENO;
 ghost use mathlib.Core.Path.{_≡_};
@@ -178,22 +179,10 @@ fn are_same(expected: &[u32], out: &[u32]) -> bool {
 
 // The operation of this number.
 fn call(operation: u32, a: &[u32], b: &[u32], number: u32, out: &mut [u32]) -> u32 {
-    match operation {
-        1 => host::host_equality_at_vertex(a, size(number), out),
-        2 => host::host_equality_weights_msb(a, out),
-        3 => host::host_equality_weights_lsb(a, out),
-        4 => host::host_eval_eq(a, b, out),
-        5 => host::host_eval_next(a, b, out),
-        6 => host::host_eval_select(a, number, out),
-        7 => host::host_new_from_point(a, b, out),
-        8 => host::host_new_next_from_point(a, out),
-        9 => host::host_eval_eq_batch(a, b, size(number), out),
-        10 => host::host_eval_eq_batch_add(a, b, size(number), out),
-        11 => host::values::host_poly_eval_base(a, b, out),
-        12 => host::values::host_poly_eval_ext(a, b, out),
-        13 => host::values::host_poly_eval_next_base(a, b, out),
-        _ => call_parted(operation, a, b, size(number), out),
+    if operation < 14 {
+        return calls::call(operation, a, b, number, out);
     }
+    call_parted(operation, a, b, size(number), out)
 }
 
 // The operations with more slices than a, b and out.
@@ -236,7 +225,7 @@ fn call_lent(
 ) -> u32
     requires { ⌜ (second ≤ length (now b)) × ((lent ≤ length (now work)) × (lent ≤ length (now out))) ⌝ }
 {
-    let answer = call_split(
+    let answer = calls::call_parted(
         operation,
         a,
         &b[..second],
@@ -260,31 +249,5 @@ fn copy(from: &[u32], n: usize, to: &mut [u32]) {
         }
         to[i] = from[i];
         i += 1;
-    }
-}
-
-fn call_split(
-    operation: u32,
-    a: &[u32],
-    b: &[u32],
-    c: &[u32],
-    work: &mut [u32],
-    out: &mut [u32],
-) -> u32 {
-    match operation {
-        14 => host::values::host_split_eval_base(a, b, c, work, out),
-        15 => host::values::host_split_eval_ext(a, b, c, work, out),
-        16 => host::values::host_split_eval_next_base(a, b, c, work, out),
-        17 => host::values::host_last_scalar(a, b, work, out),
-        18 => host::values::host_accumulate_into(a, b, c, work, out),
-        19 => host::values::host_compress_prefix(a, b, c, work, out),
-        20 => host::values::host_compress_suffix(a, b, c, work, out),
-        21 => host::values::host_compress_prefix_shifted(a, b, c, work, out),
-        22 => host::values::host_compress_suffix_shifted(a, b, c, work, out),
-        23 => host::fixed::host_fix_prefix_var_mut(a, work, out),
-        24 => host::fixed::host_fix_suffix_var_mut(a, work, out),
-        25 => host::fixed::host_fix_prefix_var_mut_monomial(a, work, out),
-        26 => host::fixed::host_sum_prefix_var_mut(work, out),
-        _ => 255,
     }
 }

@@ -1,16 +1,18 @@
 -- `byte_fold::gather_rows` meets its contract. Assumes nothing.
-use Prim.Native.Nat.{_+_, _-_, _*_, _≤_}
+use mathlib.Core.Path.{sym, _∙_}
+use Prim.Native.Nat.{_+_, _-_, _*_, _/_, _≤_}
 use native.Mathlib.Nat.{div-le-self}
 use native.Mathlib.Omega.{arith}
 use borrow.Author.Needs.{needs}
 use lib.ListN.{length}
 use Rattle.octets.specs.Octets.{words}
+use Rattle.octets.proofs.Octets.{words-length}
 use Rattle.byte_fold.proofs.Rows.{Read, begins, row-within, lent, turn, ends}
 use Rattle.byte_fold.proofs.gather_rows.Statement.{statement}
 use Rattle.byte_fold.proofs.gather_rows.Tie as tie
 
 abbrev Inv-loop : tie.InvT-loop
-Inv-loop table inner places start block₀ r₀ r-end block r = Read places inner start (words table) (length block₀) r block
+Inv-loop table inner places start block₀ r₀ r-end block r = Read places inner start (words table) r block₀ block
 
 abbrev μ-loop : tie.MeasureT-loop
 μ-loop table inner places start block₀ r₀ r-end block r = r-end - r
@@ -26,36 +28,34 @@ module _ (c : tie.In-loop Inv-loop μ-loop) where
   begin = at .before .before .before
 
   -- row r of the block, and of the table
-  within : at .loop .r * begin .args .places + begin .args .places ≤ length (at .loop .block)
-  within =
-      omega (
-        arith,
-        row-within _ 0 0 (words (begin .args .table .now)) (begin .pre .some) _ _ (c .loop-test .taken),
-        at .loop .inv .len,
-      )
+  within : at .loop .r * begin .args .places + begin .args .places ≤ length (begin .args .block .now)
+  within = row-within _ _ _ (c .loop-test .taken)
 
-  there : 4 * (begin .args .start + at .loop .r * begin .args .inner + begin .args .places) ≤ length (begin .args .table .now)
-  there = begin .pre .there _ (c .loop-test .taken)
+  there : begin .args .start + at .loop .r * begin .args .inner + begin .args .places ≤ length (words (begin .args .table .now))
+  there = omega (arith, begin .pre .there _ (c .loop-test .taken), words-length (begin .args .table .now))
 
   few : at .loop .r + 1 ≤ length (begin .args .block .now)
   few = omega (arith, c .loop-test .taken, div-le-self (length (begin .args .block .now)) (begin .args .places))
+
+decode-requires : tie.Need-decode-requires Inv-loop μ-loop
+decode-requires c κs =
+    let test = c .before in
+    omega (
+      arith,
+      begin test .pre .there _ (test .loop-test .taken),
+      lent _ _ _ _ (begin test .pre .some) (at test .loop .inv) (test .loop-test .taken) (there test),
+    )
 
 module _ (c : tie.After-slice-known2 Inv-loop μ-loop) where
   abbrev turned : tie.In-loop Inv-loop μ-loop
   turned = c .before .before .before .before
 
-decode-requires : tie.Need-decode-requires Inv-loop μ-loop
-decode-requires c κs =
-    let test = c .before in
-    let from = begin test in
-    omega (arith, there test, lent _ _ _ (words (from .args .table .now)) (from .pre .some) (at test .loop .inv) (test .loop-test .taken))
-
 loop-again : tie.Need-loop-again Inv-loop μ-loop
 loop-again c =
-    let decode = c .before .before in
-    let test = decode .before .before in
-    turn _ _ _ _ (begin test .pre .some) (at test .loop .inv) (test .loop-test .taken) (decode .decode .ensures)
-    (decode .decode .kept .1 .1 .0)
+    let test = turned c in
+    let some = begin test .pre .some in
+    turn _ _ _ _ some (at test .loop .inv) (test .loop-test .taken) (there test) (c .before .before .decode .ensures)
+    (lent _ _ _ _ some (at test .loop .inv) (test .loop-test .taken) (there test))
 
 returns : tie.Need-returns Inv-loop μ-loop
 returns c =
@@ -66,22 +66,9 @@ returns c =
 pub gather-rows-spec : {M : Type 1} → statement M
 gather-rows-spec =
     tie.close
-    (tie.spec
-    Inv-loop
-    μ-loop
-    (search needs)
-    loop-holds
-    (λ c. omega (arith, within c))
-    (λ c. omega (arith, within c))
-    (λ c. omega (arith, there c))
-    (λ c. omega (arith, there c))
-    (λ c. omega (arith, within c))
-    (λ c. omega (arith, within c))
-    (λ c. omega (arith, within c))
-    (λ c. omega (arith, within c))
-    decode-requires
-    (λ c. omega (arith, few (turned c), begin (turned c)))
-    (λ c. omega (arith, turned c .loop-test .taken))
-    loop-again
-    (λ c. c .before .loop .inv .len)
-    returns)
+    (tie.spec Inv-loop μ-loop (search needs) loop-holds (λ c. omega (arith, within c)) (λ c. omega (arith, within c))
+    (λ c. omega (arith, there c, words-length (begin c .args .table .now)))
+    (λ c. omega (arith, there c, words-length (begin c .args .table .now))) (λ c. omega (arith, within c))
+    (λ c. omega (arith, within c)) (λ c. omega (arith, within c, at c .loop .inv .front .len))
+    (λ c. omega (arith, within c, at c .loop .inv .front .len)) decode-requires (λ c. omega (arith, few (turned c), begin (turned c)))
+    (λ c. omega (arith, turned c .loop-test .taken)) loop-again (λ c. c .before .loop .inv .front .len) returns)

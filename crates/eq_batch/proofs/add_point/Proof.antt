@@ -3,7 +3,7 @@ use mathlib.Core.Path.{_≡_}
 use Prim.Native.Nat.{_-_, _*_, _≤_}
 use native.Mathlib.Omega.{arith}
 use borrow.Author.Needs.{needs}
-use Rattle.table.specs.Inner.{Gained}
+use Rattle.table.specs.Gained.{Gained}
 use Rattle.eq_batch.specs.Inner.{scaledAt}
 use Rattle.eq_batch.proofs.BlockByBlock.{Cut, start, joined, edge, room, turn, finish}
 use Rattle.eq_batch.proofs.add_point.Statement.{statement}
@@ -20,14 +20,14 @@ loop-holds c = (omega arith, start _ _ _ _ _)
 
 -- what is known at each turn
 module _ (at : tie.At-loop Inv-loop μ-loop) where
-  abbrev split : tie.After-smaller Inv-loop μ-loop
+  abbrev split : tie.After-min Inv-loop μ-loop
   split = at .before .before .before
 
   abbrev begin : tie.Start Inv-loop μ-loop
   begin = split .before .before .before
 
-  cut : Cut (begin .args .n) (split .smaller .result) (at .before .before .rows .result) (at .before .rows2 .result)
-  cut = record { few = omega (arith, split .smaller .ensures); rows-are = at .before .before .rows .ensures; end-is = at .before .rows2 .ensures }
+  cut : Cut (begin .args .n) (split .min .result) (at .before .before .rows .result) (at .before .rows2 .result)
+  cut = record { few = omega (arith, split .min .ensures); rows-are = at .before .before .rows .ensures; end-is = at .before .rows2 .ensures }
 
 at-row-requires : tie.Need-at-row-requires Inv-loop μ-loop
 at-row-requires c κs =
@@ -49,7 +49,7 @@ add-block-requires c κs =
     let at = test .before in
     let pre = begin at .pre in (
       (rw (joined (cut at)) (pre .0 .0), mul .mul .ensures .below),
-      (omega (arith, split at .smaller .ensures), room _ _ _ (cut at) _ _ _ (at .loop .inv .1) (test .loop-test .taken) (pre .1)),
+      (omega (arith, split at .min .ensures), room _ _ _ (cut at) _ _ _ (at .loop .inv .1) (test .loop-test .taken) (pre .1)),
     )
 
 loop-again : tie.Need-loop-again Inv-loop μ-loop

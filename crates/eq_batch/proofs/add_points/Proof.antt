@@ -6,7 +6,7 @@ use borrow.Author.Needs.{needs}
 use Rattle.field.specs.Field.{field}
 use Rattle.multilinear.specs.Beside.{evalBatch}
 use Rattle.table.specs.Table.{entries, elementAt}
-use Rattle.table.specs.Inner.{Gained}
+use Rattle.table.specs.Gained.{Gained}
 use Rattle.eq_batch.specs.Batch.{column}
 use Rattle.eq_batch.proofs.Rooms.{room-gained}
 use Rattle.eq_batch.proofs.Summing.{start, turn}

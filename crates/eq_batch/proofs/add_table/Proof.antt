@@ -7,7 +7,7 @@ use borrow.Author.Needs.{needs}
 use lib.ListN.{length}
 use Rattle.field.specs.Field.{fromWords}
 use Rattle.table.specs.Table.{elementAt}
-use Rattle.table.specs.Inner.{Gained}
+use Rattle.table.specs.Gained.{Gained}
 use Rattle.table.proofs.Gaining.{none, unchanged, turn}
 use Rattle.eq_batch.proofs.add_table.Statement.{statement}
 use Rattle.eq_batch.proofs.add_table.Tie as tie

@@ -22,7 +22,7 @@ module _ (either : tie.After-either Inv-loop μ-loop) where
   abbrev first : tie.After-is-part-unreduced Inv-loop μ-loop
   first = second .before .before
 
-  abbrev count : tie.After-smaller Inv-loop μ-loop
+  abbrev count : tie.After-min Inv-loop μ-loop
   count = first .before .before
 
   abbrev at : tie.At-loop Inv-loop μ-loop
@@ -31,10 +31,10 @@ module _ (either : tie.After-either Inv-loop μ-loop) where
   abbrev begin : tie.Start Inv-loop μ-loop
   begin = at .before .before
 
-  within : at .loop .at + count .smaller .result ≤ begin .args .h
-  within = omega (arith, count .smaller .ensures, count .before .loop-test .taken)
+  within : at .loop .at + count .min .result ≤ begin .args .h
+  within = omega (arith, count .min .ensures, count .before .loop-test .taken)
 
-  tested : next (begin .args .h) (at .loop .at) (count .smaller .result) (at .loop .entries) ≡ either .either .result
+  tested : next (begin .args .h) (at .loop .at) (count .min .result) (at .loop .entries) ≡ either .either .result
   tested = sym (either .either .ensures ∙ ap₂ _||_ (first .is-part-unreduced .ensures) (second .is-part-unreduced2 .ensures))
 
 take-back-requires : tie.Need-take-back-requires Inv-loop μ-loop

@@ -4,8 +4,10 @@ use Prim.Native.Nat.{_/_}
 use native.Mathlib.Omega.{arith}
 use borrow.Author.Needs.{needs}
 use lib.ListN.{length}
+use borrow.Author.Tests.{ne-eqb}
+use Rattle.table.proofs.Verdicts.{clear}
 use Rattle.fixing.specs.Inner.{unlessUnreduced}
-use Rattle.fixing.proofs.FixingOutcomes.{sum-sized, sum-constant, summed}
+use Rattle.fixing.proofs.FixingOutcomes.{two-halves, sum-constant, summed}
 use Rattle.fixing.proofs.sum_sized.Statement.{statement}
 use Rattle.fixing.proofs.sum_sized.Tie as tie
 
@@ -19,7 +21,8 @@ returns c =
 sum-halves-requires : tie.Need-sum-halves-requires
 sum-halves-requires c κs =
     let else = c .before in
-    sum-sized _ (omega arith) (else .before .before .pre) (else .if1 .left)
+    let h = clear _ tt (else .before .before .pre .accepted) in
+    two-halves _ (omega arith) (h .0) (h .1 .0) (ne-eqb _ _ (else .if1 .left))
 
 returns-2 : tie.Need-returns-2
 returns-2 c =

@@ -4,6 +4,7 @@ use Prim.Native.Nat.{ℕ}
 use native.Mathlib.Omega.{arith}
 use borrow.Author.Needs.{needs}
 use lib.ListN.{length, length-replicate}
+use Rattle.frames.specs.Inner.{mostLine}
 use Rattle.frames.proofs.Keeping.{at-start-zeros}
 use Rattle.foldframes.specs.Progress.{Going}
 use Rattle.foldframes.proofs.main.Statement.{statement}
@@ -20,7 +21,7 @@ loop-holds c =
     record {
       ready = rw (c .start .ensures) (at-start-zeros (c .before .before .out-room .ensures));
       held = omega arith;
-      room = ap length (c .before .line-room .ensures) ∙ length-replicate {A = ℕ} 133 0;
+      room = ap length (c .before .line-room .ensures) ∙ length-replicate {A = ℕ} mostLine 0;
     }
 
 pub main-spec : {M : Type 1} → statement M

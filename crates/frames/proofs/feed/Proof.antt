@@ -12,7 +12,7 @@ use Rattle.frame.proofs.Grammar.{words-frame-length}
 use Rattle.frames.specs.Reader.{used}
 use Rattle.frames.proofs.Reading.{words-counted}
 use Rattle.frames.proofs.Accepted.{feeds}
-use Rattle.frames.proofs.Keeping.{used-fits, adds}
+use Rattle.frames.proofs.Keeping.{used-fits, hands}
 use Rattle.frames.proofs.feed.Statement.{statement}
 use Rattle.frames.proofs.feed.Tie as tie
 
@@ -46,21 +46,21 @@ add-requires c κs =
     let read = rows .before .before .before in
     let start = read .before .before .before .before in
     let t = start .pre in
-    rw (read .words-in .ensures .0, part rows) (adds _ _ _ (t .ready) (t .accepted) (sym (t .kind-is)))
+    rw (read .words-in .ensures .0, part rows) (hands _ _ _ (t .ready) (t .accepted) (sym (t .kind-is)))
 
 add-mark : tie.Need-add-mark
 add-mark c =
-    let read = c .before .before .before .before .before .before .before .before .before in
+    let read = c .before .before .before .before .before .before .before .before in
     let start = read .before .before .before .before in
     let t = start .pre in
     let f = feeds _ _ (t .accepted) (sym (t .kind-is)) in
     let n = words-counted (start .args .bytes .now) (read .before .number .ensures .0) refl in
-    let few : 2 ^ start .args .reader .session .n ≤ 2 ^ most = pow-mono (t .ready .small) in
+    let few : 2 ^ start .args .reader .session .plan .n ≤ 2 ^ most = pow-mono (t .ready .sound .small) in
     record { fits = omega (arith, f .within, n, few) }
 
 returns : tie.Need-returns
 returns c =
-    let added = c .before .before .before .before in
+    let added = c .before .before .before in
     let rows = added .before .before .before in
     let read = rows .before .before .before in
     let start = read .before .before .before .before in

@@ -11,7 +11,7 @@ returns : tie.Need-returns
 returns c =
     let read = c .before in
     let a = read .before .before .args in
-    rw (le-ltb (indexOf (a .bytes .now)) (a .reader .session .k) (omega (arith, read .number .ensures .0, c .if1 .taken)))
+    rw (le-ltb (indexOf (a .bytes .now)) (a .reader .session .plan .k) (omega (arith, read .number .ensures .0, c .if1 .taken)))
 
 returns-2 : tie.Need-returns-2
 returns-2 c =
@@ -21,7 +21,7 @@ returns-2 c =
     let read = below .before in
     let a = read .before .before .args in
     rw (
-      lt-ltb (indexOf (a .bytes .now)) (a .reader .session .k) (omega (arith, read .number .ensures .0, below .if1 .left)),
+      lt-ltb (indexOf (a .bytes .now)) (a .reader .session .plan .k) (omega (arith, read .number .ensures .0, below .if1 .left)),
       c .with-coordinate .ensures,
       element .element .ensures,
       more .once-more .ensures,

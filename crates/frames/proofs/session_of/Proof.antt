@@ -4,7 +4,7 @@ use Rattle.frames.proofs.session_of.Statement.{statement}
 use Rattle.frames.proofs.session_of.Tie as tie
 
 returns : tie.Need-returns
-returns c = rw (c .coordinates-room .ensures)
+returns c = rw (c .new .ensures)
 
 pub session-of-spec : {M : Type 1} → statement M
-session-of-spec = tie.close (tie.spec (search needs) returns)
+session-of-spec = tie.close (tie.spec (search needs) (λ c κs. search needs) returns)

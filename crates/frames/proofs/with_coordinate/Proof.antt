@@ -11,7 +11,7 @@ put-requires : tie.Need-put-requires
 put-requires c κs = omega (arith, count c)
 
 returns : tie.Need-returns
-returns c = rw (c .before .put .ensures)
+returns c = rw (c .before .before .put .ensures)
 
 pub with-coordinate-spec : {M : Type 1} → statement M
 with-coordinate-spec = tie.close (tie.spec count put-requires returns)

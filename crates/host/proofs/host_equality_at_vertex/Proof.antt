@@ -1,11 +1,7 @@
 -- `host::host_equality_at_vertex` meets its contract. Assumes nothing.
 use borrow.Author.Needs.{needs}
-use Rattle.host.proofs.Calls.{given-as}
 use Rattle.host.proofs.host_equality_at_vertex.Statement.{statement}
 use Rattle.host.proofs.host_equality_at_vertex.Tie as tie
 
-returns : tie.Need-returns
-returns c = given-as 4 _ (c .before .before .give .ensures) (c .before .before .before .before .equality-at-vertex .ensures)
-
 pub host-equality-at-vertex-spec : {M : Type 1} → statement M
-host-equality-at-vertex-spec = tie.close (tie.spec (λ c κs. search needs) (λ c κs. search needs) (search needs) returns)
+host-equality-at-vertex-spec = tie.close (tie.spec (λ c κs. search needs) (λ c κs. search needs) (λ c. cc))

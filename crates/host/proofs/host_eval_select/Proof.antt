@@ -1,11 +1,7 @@
 -- `host::host_eval_select` meets its contract. Assumes nothing.
 use borrow.Author.Needs.{needs}
-use Rattle.host.proofs.Calls.{given-as}
 use Rattle.host.proofs.host_eval_select.Statement.{statement}
 use Rattle.host.proofs.host_eval_select.Tie as tie
 
-returns : tie.Need-returns
-returns c = given-as 4 _ (c .before .before .give .ensures) (c .before .before .before .before .eval-select .ensures)
-
 pub host-eval-select-spec : {M : Type 1} → statement M
-host-eval-select-spec = tie.close (tie.spec (λ c κs. search needs) (λ c κs. search needs) (search needs) returns)
+host-eval-select-spec = tie.close (tie.spec (λ c κs. search needs) (λ c κs. search needs) (λ c. cc))

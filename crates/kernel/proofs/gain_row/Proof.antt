@@ -7,7 +7,7 @@ use lib.ListN.{length, getD}
 use Rattle.algebra.specs.Ring.{Ops}
 use Rattle.algebra.proofs.Words.{below}
 use Rattle.field.specs.Field.{p, p-pos, field, base, fromWords}
-use Rattle.table.specs.Inner.{Gained}
+use Rattle.table.specs.Gained.{Gained}
 use Rattle.table.proofs.Gaining.{none, turn}
 use Rattle.kernel.proofs.gain_row.Statement.{statement}
 use Rattle.kernel.proofs.gain_row.Tie as tie

@@ -6,7 +6,7 @@ use borrow.Author.Needs.{needs}
 use lib.ListN.{length}
 use Rattle.algebra.proofs.Words.{below}
 use Rattle.field.specs.Field.{p, p-pos, fromWords}
-use Rattle.table.specs.Inner.{Gained}
+use Rattle.table.specs.Gained.{Gained}
 use Rattle.table.proofs.Gaining.{none, turn}
 use Rattle.kernel.specs.Kernel.{fourRows}
 use Rattle.kernel.proofs.gain_rows.Statement.{statement}
@@ -17,6 +17,10 @@ Inv-loop out₀ words n w0 w1 w2 w3 y₀ out y = (y ≤ n) × Gained 0 y (fourRo
 
 abbrev μ-loop : tie.MeasureT-loop
 μ-loop out₀ words n w0 w1 w2 w3 y₀ out y = n - y
+
+module _ (test : tie.In-loop Inv-loop μ-loop) where
+  abbrev start : tie.Start Inv-loop μ-loop
+  start = test .before .before .before .before
 
 loop-holds : tie.Need-loop-holds Inv-loop μ-loop
 loop-holds c = (omega arith, none 0 _ _)
@@ -72,19 +76,19 @@ gain-rows-spec =
     Inv-loop
     μ-loop
     loop-holds
-    (search needs)
-    (search needs)
-    (search needs)
-    (search needs)
-    (search needs)
-    (search needs)
-    (search needs)
-    (search needs)
-    (search needs)
-    (search needs)
-    (search needs)
-    (search needs)
-    (search needs)
+    (λ c. omega (arith, c .loop-test .taken, start c .pre .0 .there))
+    (λ c. let test = c .before in omega (arith, test .loop-test .taken, start test .pre .0 .there))
+    (λ c. let test = c .before in omega (arith, test .loop-test .taken, start test .pre .0 .there))
+    (λ c. let test = c .before in omega (arith, test .loop-test .taken, start test .pre .0 .there))
+    (λ c. let test = c .before .before in omega (arith, test .loop-test .taken, start test .pre .0 .there))
+    (λ c. let test = c .before .before in omega (arith, test .loop-test .taken, start test .pre .0 .there))
+    (λ c. let test = c .before .before in omega (arith, test .loop-test .taken, start test .pre .0 .there))
+    (λ c. let test = c .before .before in omega (arith, test .loop-test .taken, start test .pre .0 .there))
+    (λ c. let test = c .before .before .before in omega (arith, test .loop-test .taken, start test .pre .0 .there))
+    (λ c. let test = c .before .before .before in omega (arith, test .loop-test .taken, start test .pre .0 .there))
+    (λ c. let test = c .before .before .before in omega (arith, test .loop-test .taken, start test .pre .0 .there))
+    (λ c. let test = c .before .before .before in omega (arith, test .loop-test .taken, start test .pre .0 .there))
+    (λ c. let test = c .before .before .before .before in omega (arith, test .loop-test .taken, start test .pre .0 .there))
     get-requires
     step-four-requires
     put-requires

@@ -6,7 +6,7 @@ use borrow.Author.Needs.{needs}
 use lib.ListN.{length}
 use Rattle.algebra.proofs.Words.{below}
 use Rattle.field.specs.Field.{p, p-pos, fromWords}
-use Rattle.table.specs.Inner.{Gained}
+use Rattle.table.specs.Gained.{Gained}
 use Rattle.table.proofs.Gaining.{none, turn}
 use Rattle.kernel.specs.Kernel.{twoRows}
 use Rattle.kernel.proofs.gain_two.Statement.{statement}

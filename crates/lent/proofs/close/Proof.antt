@@ -42,7 +42,7 @@ use Rattle.session.proofs.close.Symbol as core-code
 use Rattle.session.proofs.close.Met as core-met
 use Rattle.lent.proofs.Fields.{shut, close-stored}
 use Rattle.lent.proofs.Values.{sessionRow, settledRow, sessionVal, answerVal, wordsVal, settled-mir, settled-tells, settled-answer}
-use Rattle.lent.proofs.Values.{settled-session, session-typed, answer-typed, settled-typed, marked-is}
+use Rattle.lent.proofs.Values.{settled-session, session-typed, answer-typed, settled-typed, session-made}
 use Rattle.lent.proofs.Lending.{answer-owned, opened, answered, closed, freed, copied, sets, meets}
 use Rattle.lent.proofs.close as close
 use Rattle.lent.proofs.close.Key as key
@@ -102,11 +102,11 @@ module _ {M : Type 1} (𝓤 : URA M) (H : Heap 𝓤) (A : Atoms 𝓤) (W : Given
         -- [the token; nothing more is told; what out owns; the cell; the open borrow; obs; auth; _4; …]
         move ! (1 ∷ []) $ drop ! $ land ! (from ! (stop !)) (init ! 6 refl (settled-typed W r is)) $
         rewrite ! 6 (λ (u : Val). ‵ (fat fullShare settled-mir l₄ 0 u)) (settled-tells r is) refl $
-        assigns ! (of-opd ! (load ! (from ! (fld ! refl (fld ! refl (stop !)))) (look-in ! 6 (sub ! 7 refl (sub ! 1 refl (whole !))))))
-        (from ! (hop ! (look ! 12 refl) (fld ! refl (stop !)))) (store-in ! 2 (sub ! 7 refl (whole !)) (tt, tt)) $
+        assigns ! (of-opd ! (load ! (from ! (fld ! refl (fld ! refl (stop !)))) (look-in ! 6 (sub ! 2 refl (sub ! 1 refl (whole !))))))
+        (from ! (hop ! (look ! 12 refl) (fld ! refl (stop !)))) (store-in ! 2 (sub ! 2 refl (whole !)) (tt, tt)) $
         sets ! (of-opd ! (load ! (from ! (fld ! refl (stop !))) (look-in ! 6 (sub ! 0 refl (whole !)))))
         (init ! 14 refl (answer-typed W (r .answer) (settled-answer r is))) $
-        move ! (2 ∷ 3 ∷ 4 ∷ 5 ∷ []) $ closed ! tt (shut s (r .session)) b o (marked-is s s (r .session) g g (settled-session r is)) $
+        move ! (2 ∷ 3 ∷ 4 ∷ 5 ∷ []) $ closed ! tt (shut s (r .session)) b o (session-made s s (r .session) g g (settled-session r is)) $
         -- [the lent session; its token; the other token; what out owns; _4; …]
         returns ! (look ! 12 refl) $ freed ! 12 refl refl $ freed ! 10 refl refl $ freed ! 8 refl refl $ freed ! 6 refl refl $
         freed ! 4 refl refl $ free0 ! $

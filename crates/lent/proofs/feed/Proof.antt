@@ -43,7 +43,7 @@ use Rattle.session.proofs.feed.Symbol as core-code
 use Rattle.session.proofs.feed.Met as core-met
 use Rattle.lent.proofs.Fields.{counted, feed-stored}
 use Rattle.lent.proofs.Values.{sessionRow, settledRow, sessionVal, answerVal, wordsVal, settled-mir, settled-tells, settled-answer}
-use Rattle.lent.proofs.Values.{settled-session, session-typed, taken-typed, answer-typed, settled-typed, marked-is}
+use Rattle.lent.proofs.Values.{settled-session, session-typed, taken-typed, answer-typed, settled-typed, session-made}
 use Rattle.lent.proofs.Lending.{answer-owned, opened, answered, told-last, closed, freed, copied, sets, meets}
 use Rattle.lent.proofs.feed as feed
 use Rattle.lent.proofs.feed.Key as key
@@ -123,12 +123,12 @@ module _ {M : Type 1} (𝓤 : URA M) (H : Heap 𝓤) (A : Atoms 𝓤) (W : Given
         -- [out's last list; the tokens; what the piece owns; the cell; the open borrow; obs; auth; _7; …]
         land ! (from ! (stop !)) (init ! 11 refl (settled-typed W r is)) $
         rewrite ! 11 (λ (u : Val). ‵ (fat fullShare settled-mir l₅ 0 u)) (settled-tells r is) refl $
-        assigns ! (of-opd ! (load ! (from ! (fld ! refl (fld ! refl (stop !)))) (look-in ! 11 (sub ! 6 refl (sub ! 1 refl (whole !))))))
+        assigns ! (of-opd ! (load ! (from ! (fld ! refl (fld ! refl (stop !)))) (look-in ! 11 (sub ! 1 refl (sub ! 1 refl (whole !))))))
         (from ! (hop ! (look ! 19 refl) (fld ! refl (stop !))))
-        (store-in ! 3 (sub ! 6 refl (whole !)) (taken-typed (r .session) (settled-session r is))) $
+        (store-in ! 3 (sub ! 1 refl (whole !)) (taken-typed (r .session) (settled-session r is))) $
         sets ! (of-opd ! (load ! (from ! (fld ! refl (stop !))) (look-in ! 11 (sub ! 0 refl (whole !)))))
         (init ! 21 refl (answer-typed W (r .answer) (settled-answer r is))) $
-        move ! (3 ∷ 4 ∷ 5 ∷ 6 ∷ []) $ closed ! tt (counted s (r .session)) b o (marked-is s (r .session) s g (settled-session r is) g) $
+        move ! (3 ∷ 4 ∷ 5 ∷ 6 ∷ []) $ closed ! tt (counted s (r .session)) b o (session-made s (r .session) s g (settled-session r is) g) $
         -- [the lent session; its token; out's last list; the other tokens; what the piece owns; _7; …]
         returns ! (look ! 19 refl) $ freed ! 19 refl refl $ freed ! 17 refl refl $ freed ! 15 refl refl $ freed ! 13 refl refl $
         freed ! 11 refl refl $ freed ! 9 refl refl $ freed ! 7 refl refl $ freed ! 5 refl refl $ free0 ! $

@@ -17,7 +17,7 @@ unfolding closeLeaves
 returns-2 c =
     let told = c .before in
     settles (state _ _) (state _ _) (told .enum-told .given .1) (told .before .before .test-close .ensures)
-    (c .mark .ensures) refl
+    refl refl
 
 pub close-spec : {M : Type 1} → statement M
-close-spec = tie.close (tie.spec (search needs) (λ c. search needs) (λ c. search needs) (search needs) returns returns-2)
+close-spec = tie.close (tie.spec (search needs) (λ c. search needs) (λ c. search needs) returns returns-2)

@@ -6,7 +6,7 @@ use Rattle.session.proofs.no_session.Tie as tie
 
 returns : tie.Need-returns
 unfolding noSession
-returns c = rw (c .room .ensures)
+returns c = rw (c .new .ensures)
 
 pub no-session-spec : {M : Type 1} → statement M
-no-session-spec = tie.close (tie.spec (search needs) (search needs) returns)
+no-session-spec = tie.close (tie.spec (search needs) (λ c. search needs) (search needs) returns)

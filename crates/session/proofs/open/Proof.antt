@@ -1,18 +1,24 @@
 -- `session::open` meets its contract: by the tests' answer. Assumes nothing.
-use mathlib.Core.Path.{refl}
+use mathlib.Core.Path.{refl, ap}
+use mathlib.Core.Bool.{false}
+use native.Mathlib.Omega.{arith}
 use borrow.Author.Needs.{needs}
 use Rattle.table.proofs.Answers.{answer-as}
-use Rattle.session.specs.Session.{state, args, openAnswer, noSession, opened, openLeaves}
-use Rattle.session.proofs.Accepted.{point-fits}
+use Rattle.session.specs.Session.{state, args, sessionOf, openAnswer, openLeaves}
+use Rattle.session.proofs.Accepted.{Opened, opened}
 use Rattle.session.proofs.Outcomes.{settles}
 use Rattle.session.proofs.open.Statement.{statement}
 use Rattle.session.proofs.open.Tie as tie
 
-fresh-requires : tie.Need-fresh-requires
-fresh-requires c κs =
-    let told = c .before .before .before .before in
-    let a = told .before .before .before .before .before .before .args in
-    point-fits (a .n) (a .scale) (a .point .now) (a .out .now) (answer-as (told .enum-told .given .1) (told .before .before .test-open .ensures))
+accepted : (c : tie.After-enum-told) → let a = c .before .before .before .before .before .before .args in
+    Opened (args (a .n) (a .side) (a .weight) (a .scale) (a .point .now)) (a .out .now)
+unfolding openAnswer
+accepted c = opened _ _ (answer-as (c .enum-told .given .1) (c .before .before .test-open .ensures))
+
+new-requires : tie.Need-new-requires
+new-requires c κs =
+    let d = accepted (c .before .before .before .before) in
+    omega (arith, d .count, d .sound .small, d .sound .fits)
 
 returns : tie.Need-returns
 unfolding openAnswer openLeaves
@@ -26,11 +32,8 @@ unfolding openAnswer openLeaves
 returns-2 c =
     let cleared = c .before .before .before in
     let told = cleared .before .before in
-    let a = told .before .before .before .before .before .before .args in
-    let given = args (a .n) (a .side) (a .weight) (a .scale) (a .point .now) in
-    settles (opened given (a .out .now)) (state noSession (a .out .now))
-    (told .enum-told .given .1) (told .before .before .test-open .ensures)
-    (c .fresh .ensures) (cleared .clear .ensures)
+    settles (state _ _) (state _ _) (told .enum-told .given .1) (told .before .before .test-open .ensures)
+    (ap (λ plan. sessionOf plan 0 false) (c .new .ensures)) (cleared .clear .ensures)
 
 pub open-spec : {M : Type 1} → statement M
 open-spec =
@@ -41,7 +44,7 @@ open-spec =
     (search needs)
     (λ c. search needs)
     (search needs)
-    fresh-requires
+    new-requires
     (search needs)
     returns
     (search needs)

@@ -1,23 +1,12 @@
 -- `session::test_open` meets its contract: the tests one by one. Assumes nothing.
-use mathlib.Core.Path.{_≡_, sym}
 use borrow.Author.Needs.{needs}
-use lib.ListN.{length}
 use Rattle.table.proofs.Verdicts.{gone-through}
 use Rattle.session.proofs.test_open.Statement.{statement}
 use Rattle.session.proofs.test_open.Tie as tie
 
--- the scale has four words
-four : (c : tie.Start) → length (c .args .scale .c) ≡ 4
-four c = search needs
-
-count : tie.Need-slice-aggregate-unreduced
-count c =
-    let out = c .before .before .before .before .before .before .before .before .before .before .before in
-    sym (four (out .before .before .before .before .before .before))
-
 returns : tie.Need-returns
 returns c =
-    let below = c .before .before .before in
+    let below = c .before in
     let places = below .before .before in
     let fitting = places .before .before .before in
     let few = fitting .before in
@@ -27,9 +16,8 @@ returns c =
     gone-through _ tt
     (rw (
       c .refuse-if8 .ensures,
-      c .before .unreduced2 .ensures,
       below .refuse-if7 .ensures,
-      below .before .unreduced .ensures,
+      below .before .unreduced2 .ensures,
       places .refuse-if6 .ensures,
       places .before .rows-differ .ensures,
       places .before .before .remaining .ensures,
@@ -41,12 +29,14 @@ returns c =
       out .before .splits2 .ensures,
       point .refuse-if .ensures,
       point .before .splits .ensures,
+      point .before .before .unreduced .ensures,
     ))
 
 pub test-open-spec : {M : Type 1} → statement M
 test-open-spec =
     tie.close
     (tie.spec
+    (λ c. search needs)
     (search needs)
     (search needs)
     (search needs)
@@ -60,7 +50,6 @@ test-open-spec =
     (search needs)
     (search needs)
     (search needs)
-    count
     (search needs)
     (search needs)
     returns)

@@ -1,6 +1,6 @@
 -- `weigh::halves` meets its contract. The measure is the count of high coordinates. Assumes nothing.
 use mathlib.Core.Path.{sym}
-use Prim.Native.Nat.{ℕ, _+_, _≤_, _<_}
+use Prim.Native.Nat.{ℕ, _+_, _^_, _≤_, _<_}
 use borrow.Author.Needs.{needs}
 use native.Mathlib.Nat.{pos-of-ne-zero}
 use native.Mathlib.Omega.{arith}
@@ -8,15 +8,16 @@ use borrow.Fn.Kinds.{In}
 use borrow.Fn.PlainCycle.{Measures, is, falls, and}
 use lib.ListN.{length}
 use lib.Seq.{length-take-le}
+use Rattle.weigh.specs.Weigh.{blockVariables}
 use Rattle.weigh.proofs.WordParts.{nothing, few-words, few, dots, dotted, low-parts, high-parts, words-joined}
 use Rattle.weigh.proofs.halves.Reads as halves
 use Rattle.weigh.proofs.halves.Kinds as halves-kinds
 use Rattle.weigh.proofs.+halves.Lts-halves as halves-lts
 use Rattle.field.proofs.Element.zero.Reads as zero-reads
-use Rattle.kernel.proofs.dot.Reads as dot-reads
+use Rattle.dots.proofs.dot.Reads as dot-reads
 use Rattle.table.proofs.read.Reads as read-reads
 use Rattle.table.proofs.rows.Reads as rows-reads
-use Rattle.table.proofs.smaller.Reads as smaller-reads
+use Rattle.table.proofs.min.Reads as min-reads
 use Rattle.weigh.proofs.line.Reads as line-reads
 use Rattle.weigh.proofs.+halves.{statement}
 use Rattle.weigh.proofs.+halves.Tie.{close}
@@ -39,8 +40,8 @@ calls t = (
   dot-reads.Learnt,
   rows-reads.Asked,
   rows-reads.Learnt,
-  smaller-reads.Asked,
-  smaller-reads.Learnt,
+  min-reads.Asked,
+  min-reads.Learnt,
   halves-below t,
   halves.Post,
   read-reads.Asked,
@@ -51,13 +52,13 @@ calls t = (
 
 -- the weights of the words that are there
 little : (t : ℕ) (c : halves-lts.Then2 (calls t) (halves-at t) halves.Post)
-    → let args = c .before .before .before .before .before .args in args .from + length (args .words .now) ≤ 256
+    → let args = c .before .before .before .before .before .args in args .from + length (args .words .now) ≤ 2 ^ blockVariables
 little t c = few (c .before .before .before .before .before .pre .1) (c .if2 .taken)
 
 -- the words of the low half are there
-there : (t : ℕ) (c : halves-lts.After-smaller2 (calls t) (halves-at t) halves.Post)
-    → c .smaller2 .result ≤ length (c .before .before .before .before .before .before .before .before .args .words .now)
-there t c = omega (arith, c .smaller2 .ensures)
+there : (t : ℕ) (c : halves-lts.After-min2 (calls t) (halves-at t) halves.Post)
+    → c .min2 .result ≤ length (c .before .before .before .before .before .before .before .before .args .words .now)
+there t c = omega (arith, c .min2 .ensures)
 
 halves-requires : (t : ℕ) → halves-lts.Need-halves-requires (calls t) (halves-at t) halves.Post
 halves-requires t c κs =
@@ -67,7 +68,7 @@ halves-requires t c κs =
     let left = rows .before in
     let begin = left .before .before .before .before .before in (
       omega (arith, begin .pre .0, pos-of-ne-zero (left .if2 .left)),
-      low-parts (begin .pre .1) (left .if2 .left) _ (rows .rows .ensures) _ _ (start .smaller .ensures) (cut .smaller2 .ensures),
+      low-parts (begin .pre .1) (left .if2 .left) _ (rows .rows .ensures) _ _ (start .min .ensures) (cut .min2 .ensures),
     )
 
 halves-requires-2 : (t : ℕ) → halves-lts.Need-halves-requires-2 (calls t) (halves-at t) halves.Post
@@ -78,7 +79,7 @@ halves-requires-2 t c κs =
     let left = rows .before in
     let begin = left .before .before .before .before .before in (
       omega (arith, begin .pre .0, pos-of-ne-zero (left .if2 .left)),
-      high-parts (begin .pre .1) (left .if2 .left) _ (rows .rows .ensures) _ _ (start .smaller .ensures) (cut .smaller2 .ensures),
+      high-parts (begin .pre .1) (left .if2 .left) _ (rows .rows .ensures) _ _ (start .min .ensures) (cut .min2 .ensures),
     )
 
 returns : (t : ℕ) → halves-lts.Need-returns (calls t) (halves-at t) halves.Post
@@ -101,7 +102,7 @@ returns-3 t c =
     let rows = start .before in
     let left = rows .before in
     let parts = left .before .before .before .before .before .pre .1 in
-    words-joined parts (left .if2 .left) _ (rows .rows .ensures) _ _ (start .smaller .ensures) (cut .smaller2 .ensures)
+    words-joined parts (left .if2 .left) _ (rows .rows .ensures) _ _ (start .min .ensures) (cut .min2 .ensures)
     (at0 .halves .ensures) (at1 .halves2 .ensures) (read .read .ensures) (c .line .ensures)
 
 pub +halves-spec : {M : Type 1} → statement M
@@ -115,13 +116,15 @@ pub +halves-spec : {M : Type 1} → statement M
     (λ c. omega (arith, little t c))
     (λ c. omega arith)
     (λ c. omega arith)
-    (λ c. omega (arith, few-words (c .before .before .before .before .before .pre .1) (c .if2 .taken), c .before .before .before .before .before .pre .1 .room))
+    (λ c.
+    let parts = c .before .before .before .before .before .pre .1 in
+    omega (arith, few-words parts (c .if2 .taken), parts .room))
     (λ c κs. dots (c .before .before .before .before .before .before .pre .1) (c .before .if2 .taken))
     (search needs)
     (search needs)
     (λ c κs. search needs)
     (λ c κs. search needs)
-    (λ c. omega (arith, c .smaller .ensures))
+    (λ c. omega (arith, c .min .ensures))
     (λ c κs. search needs)
     (λ c. sym (length-take-le _ _ (there t (c .before))))
     (search needs)
@@ -131,7 +134,7 @@ pub +halves-spec : {M : Type 1} → statement M
     (λ c. omega (arith, there t (c .before .before)))
     (λ c. omega (arith, there t (c .before .before)))
     (λ c. omega (arith, there t (c .before .before)))
-    (λ c. omega (arith, c .before .before .before .before .smaller .ensures))
+    (λ c. omega (arith, c .before .before .before .before .min .ensures))
     (search needs)
     (search needs)
     (halves-requires-2 t)

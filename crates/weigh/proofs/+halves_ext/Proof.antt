@@ -12,7 +12,7 @@ use Rattle.weigh.proofs.ElementParts.{pairs, paired, half-there, low-pa
 use Rattle.weigh.proofs.halves_ext.Reads as halves-ext
 use Rattle.weigh.proofs.halves_ext.Kinds as halves-ext-kinds
 use Rattle.weigh.proofs.+halves_ext.Lts-halves_ext as halves-ext-lts
-use Rattle.kernel.proofs.dot_ext.Reads as dot-ext-reads
+use Rattle.dots.proofs.dot_ext.Reads as dot-ext-reads
 use Rattle.table.proofs.read.Reads as read-reads
 use Rattle.table.proofs.rows.Reads as rows-reads
 use Rattle.weigh.proofs.line.Reads as line-reads

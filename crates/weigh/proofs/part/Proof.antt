@@ -1,8 +1,9 @@
 -- `weigh::part` meets its contract. Assumes nothing.
-use Prim.Native.Nat.{_+_, _≤_}
+use Prim.Native.Nat.{_+_, _^_, _≤_}
 use native.Mathlib.Omega.{arith}
 use borrow.Author.Needs.{needs}
 use lib.ListN.{length}
+use Rattle.weigh.specs.Weigh.{blockVariables}
 use Rattle.weigh.proofs.WordParts.{few-words, few, dots, dotted}
 use Rattle.weigh.proofs.part.Statement.{statement}
 use Rattle.weigh.proofs.part.Tie as tie
@@ -12,7 +13,7 @@ module _ (c : tie.Then2) where
   begin = c .before .before .before .before .before
 
   -- the weights of the words that are there
-  little : begin .args .from + length (begin .args .words .now) ≤ 256
+  little : begin .args .from + length (begin .args .words .now) ≤ 2 ^ blockVariables
   little = few (begin .pre) (c .before .if1 .taken)
 
 dot-few-requires : tie.Need-dot-few-requires

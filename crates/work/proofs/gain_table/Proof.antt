@@ -8,7 +8,7 @@ use Rattle.algebra.specs.Ring.{Ops, CommRing}
 use Rattle.field.specs.Field.{field, fromWords}
 use Rattle.field.proofs.Laws.{field-ring, read-as}
 use Rattle.table.specs.Table.{elementAt}
-use Rattle.table.specs.Inner.{Gained}
+use Rattle.table.specs.Gained.{Gained}
 use Rattle.table.proofs.Gaining.{none, turn}
 use Rattle.work.proofs.gain_table.Statement.{statement}
 use Rattle.work.proofs.gain_table.Tie as tie

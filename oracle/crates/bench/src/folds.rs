@@ -13,7 +13,7 @@ use crate::side::{Side, Who, Words};
 type Split = SplitEq<Base, Element>;
 
 /// table, point, scale, work, out.
-pub type Fold = fn(&[u32], &[u32], &[u32], &mut [u32], &mut [u32]) -> u32;
+pub type Fold = fn(&[u32], &[u32], [u32; 4], &mut [u32], &mut [u32]) -> u32;
 pub type RustFold = fn(&Split, PolyView<'_, Base>) -> Poly<Element>;
 
 pub const PREFIX: (&str, Fold, RustFold) = ("compress_prefix", host::compress_prefix, |s, t| {
@@ -34,7 +34,7 @@ pub const SUFFIX_SHIFTED: (&str, Fold, RustFold) = (
 );
 
 /// point, scale, given scale, work, out.
-type Accumulate = fn(&[u32], &[u32], &[u32], &mut [u32], &mut [u32]) -> u32;
+type Accumulate = fn(&[u32], [u32; 4], [u32; 4], &mut [u32], &mut [u32]) -> u32;
 
 const COORDINATES: [usize; 4] = [1, 10, 19, 20];
 
@@ -78,7 +78,7 @@ pub fn rust_fold(input: &Input, n: usize, k: usize, fold: RustFold) -> Vec<Side<
 pub fn our_fold(who: Who, input: &Input, n: usize, k: usize, fold: Fold) -> Side<'_> {
     let mut work = work(k);
     Side::lent(who, 4 << (n - k), move |out| {
-        fold(input.words(n), input.coordinates(k), &SCALE, &mut work, out)
+        fold(input.words(n), input.coordinates(k), SCALE, &mut work, out)
     })
 }
 
@@ -126,7 +126,7 @@ fn accumulate(input: &Input, k: usize) -> Vec<Side<'_>> {
     sides.extend(calls.map(|(who, call)| {
         let (point, mut work, mut out) = (input.coordinates(k), work(k), entries.to_vec());
         Side::new(who, move |clock| {
-            let call = || call(point, &SCALE, &GIVEN, &mut work, &mut out);
+            let call = || call(point, SCALE, GIVEN, &mut work, &mut out);
             assert_eq!(clock.each(call), 0);
             clock.leaves(|| out.clone());
         })

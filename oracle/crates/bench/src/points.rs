@@ -49,7 +49,7 @@ fn products() -> Vec<Side<'static>> {
     };
     vec![
         Side::given(Rust, rust),
-        Side::lent(Ours, 4, |out| host::mul_repeat(&SCALE, &GIVEN, TIMES, out)),
+        Side::whole(Ours, |out| host::mul_repeat(&SCALE, &GIVEN, TIMES, out)),
         Side::lent(C, 4, |out| {
             reference::mul_repeat(&SCALE, &GIVEN, TIMES, out)
         }),
@@ -61,7 +61,7 @@ pub fn new_from_point(input: &Input, k: usize) -> Vec<Side<'_>> {
     let point = elements(words);
     vec![
         Side::given(Rust, move || Poly::new_from_point(&point, scale())),
-        Side::lent(Ours, 4 << k, |out| host::new_from_point(words, &SCALE, out)),
+        Side::lent(Ours, 4 << k, |out| host::new_from_point(words, SCALE, out)),
         Side::lent(C, 4 << k, |out| {
             reference::new_from_point(words, &SCALE, out)
         }),
@@ -86,7 +86,7 @@ fn equality_at_vertex(input: &Input, k: usize) -> Vec<Side<'_>> {
                 .equality_at_vertex(black_box(VERTEX) as usize)
                 .unwrap()
         }),
-        Side::lent(Ours, 4, |out| host::equality_at_vertex(words, VERTEX, out)),
+        Side::whole(Ours, |out| host::equality_at_vertex(words, VERTEX, out)),
     ]
 }
 
@@ -95,7 +95,7 @@ fn eval_next(input: &Input, k: usize) -> Vec<Side<'_>> {
     let (rust_point, rust_row) = (elements(point), elements(row));
     vec![
         Side::given(Rust, move || Point::eval_next(&rust_point, &rust_row)),
-        Side::lent(Ours, 12, |out| host::eval_next(point, row, out)),
+        Side::whole(Ours, |out| host::eval_next(point, row, out)),
     ]
 }
 

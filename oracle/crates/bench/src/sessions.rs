@@ -1,6 +1,8 @@
 //! The fold session in pieces beside the fold in one call, and what one feed
 //! costs.
 
+use host::{COORDINATES, HEAD};
+
 use crate::bench::Bench;
 use crate::folds::{Fold, PREFIX, PREFIX_SHIFTED, SUFFIX, SUFFIX_SHIFTED, our_fold};
 use crate::input::{Input, MOST, SCALE};
@@ -8,8 +10,8 @@ use crate::reference;
 use crate::side::Side;
 use crate::side::Who::{self, C, Ours};
 
-/// The words of a session.
-const WORDS: usize = 90;
+/// The words of a session: the head, and the coordinates.
+type Words = ([u32; HEAD], [u32; COORDINATES]);
 
 /// One feed, and the variables and coordinates of its session.
 pub const FEED: &str = "session, one feed";
@@ -30,7 +32,7 @@ pub fn run(bench: &mut Bench, input: &Input) {
     for (name, side, weight, fold) in SESSIONS {
         for k in [10, 20] {
             // A next fold in one call is there for all variables only.
-            let fold = fold.or((k == n).then_some(host::split_eval_next_base));
+            let fold = fold.or((k == n).then_some(next_value));
             for piece in [16, 1024, 1 << n] {
                 let size = format!("k = {k}, {}", pieces(piece));
                 bench.case(name, n, size, || {
@@ -52,6 +54,17 @@ pub fn run(bench: &mut Bench, input: &Input) {
     bench.case("test of 2^20 words", n, String::new(), || {
         vec![Session { input, n, k }.feed(0), check(4 << (n - k))]
     });
+}
+
+/// The next value at a point of all variables.
+fn next_value(
+    table: &[u32],
+    point: &[u32],
+    scale: [u32; 4],
+    work: &mut [u32],
+    out: &mut [u32],
+) -> u32 {
+    host::split_eval_next_base(table, point, scale, work, out.try_into().unwrap())
 }
 
 pub fn one_feed(k: usize, count: usize) -> String {
@@ -85,24 +98,24 @@ impl<'a> Session<'a> {
         4 << (self.n - self.k)
     }
 
-    fn open(&self, side: u32, weight: u32, out: &mut [u32]) -> [u32; WORDS] {
-        let mut session = [0; WORDS];
-        let point = self.input.coordinates(self.k);
-        let n = self.n as u64;
-        let answer = host::session_open(point, &SCALE, n, side, weight, &mut session, out);
+    fn open(&self, side: u32, weight: u32, out: &mut [u32]) -> Words {
+        let (mut head, mut kept) = ([0; HEAD], [0; COORDINATES]);
+        let (point, n) = (self.input.coordinates(self.k), self.n as u64);
+        let answer =
+            host::session_open(point, SCALE, n, side, weight, out, &mut head, &mut kept);
         assert_eq!(answer, 0);
-        session
+        (head, kept)
     }
 
     /// From open to close, the table in pieces of this many words.
     fn fed(self, side: u32, weight: u32, piece: usize) -> Side<'a> {
         let words = self.input.words(self.n);
         Side::lent(Ours, self.places(), move |out| {
-            let mut session = self.open(side, weight, out);
+            let (mut head, mut kept) = self.open(side, weight, out);
             for piece in words.chunks(piece) {
-                assert_eq!(host::session_feed(piece, &mut session, out), 0);
+                assert_eq!(host::session_feed(piece, out, &mut head, &mut kept), 0);
             }
-            host::session_close(&mut session, out)
+            host::session_close(out, &mut head, &mut kept)
         })
     }
 
@@ -113,8 +126,8 @@ impl<'a> Session<'a> {
         let session = self.open(0, 0, &mut out);
         Side::new(Ours, move |clock| {
             let answer = clock.each(|| {
-                let mut session = session;
-                host::session_feed(piece, &mut session, &mut out)
+                let (mut head, mut kept) = session;
+                host::session_feed(piece, &mut out, &mut head, &mut kept)
             });
             assert_eq!(answer, 0);
         })

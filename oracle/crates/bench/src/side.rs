@@ -48,6 +48,14 @@ impl<'a> Side<'a> {
         })
     }
 
+    /// A call that is lent the words of its answer, and answers 0.
+    pub fn whole<const N: usize>(
+        who: Who,
+        mut call: impl FnMut(&mut [u32; N]) -> u32 + 'a,
+    ) -> Self {
+        Self::lent(who, N, move |out| call(out.try_into().unwrap()))
+    }
+
     /// A call that is lent so many words, the same ones in every run, and
     /// answers 0.
     pub fn lent(who: Who, count: usize, mut call: impl FnMut(&mut [u32]) -> u32 + 'a) -> Self {

@@ -9,7 +9,7 @@ use crate::reference;
 use crate::side::Who::{C, Ours, Rust};
 use crate::side::{Side, Words};
 
-type Fix = fn(&[u32], &mut [u32], &mut [u32]) -> u32;
+type Fix = fn([u32; 4], &mut [u32], &mut u64) -> u32;
 type RustFix = fn(&mut Poly<Element>, Element);
 type FixByHand = fn(&mut [u32]) -> u32;
 
@@ -34,7 +34,7 @@ const FIXING: [(&str, Fix, RustFix, Option<FixByHand>); 4] = [
     ),
     (
         "sum_prefix_var_mut",
-        |_, table, out| host::sum_prefix_var_mut(table, out),
+        |_, table, count| host::sum_prefix_var_mut(table, count),
         |table, _| table.sum_prefix_var_mut(),
         Some(reference::sum_prefix),
     ),
@@ -65,7 +65,7 @@ pub fn eval_base(input: &Input, n: usize) -> Vec<Side<'_>> {
     let (words, coordinates, point) = (input.words(n), input.coordinates(n), input.point(n));
     let mut sides = vec![
         Side::given(Rust, move || input.table(n).eval_base(&point)),
-        Side::lent(Ours, 4, |out| host::poly_eval_base(words, coordinates, out)),
+        Side::whole(Ours, |out| host::poly_eval_base(words, coordinates, out)),
     ];
     if HALVES < n {
         sides.push(Side::lent(C, 4, |out| reference::eval_base(words, coordinates, out)));
@@ -78,7 +78,7 @@ fn eval_ext(input: &Input, n: usize) -> Vec<Side<'_>> {
     let table = Poly::new(elements(words));
     let mut sides = vec![
         Side::given(Rust, move || table.eval_ext::<Base>(&point)),
-        Side::lent(Ours, 4, |out| host::poly_eval_ext(words, coordinates, out)),
+        Side::whole(Ours, |out| host::poly_eval_ext(words, coordinates, out)),
     ];
     if HALVES < n {
         sides.push(Side::lent(C, 4, |out| reference::eval_ext(words, coordinates, out)));
@@ -90,7 +90,7 @@ fn eval_next_base(input: &Input, n: usize) -> Vec<Side<'_>> {
     let (words, coordinates, point) = (input.words(n), input.coordinates(n), input.point(n));
     vec![
         Side::given(Rust, move || input.table(n).eval_next_base(&point)),
-        Side::lent(Ours, 4, |out| {
+        Side::whole(Ours, |out| {
             host::poly_eval_next_base(words, coordinates, out)
         }),
     ]
@@ -100,7 +100,7 @@ fn eval_next_base(input: &Input, n: usize) -> Vec<Side<'_>> {
 fn fix(input: &Input, n: usize, ours: Fix, rust: RustFix) -> Vec<Side<'_>> {
     let entries = input.entries(n);
     let whole = elements(entries);
-    let (mut words, mut count) = (entries.to_vec(), [0]);
+    let (mut words, mut count) = (entries.to_vec(), 0);
     vec![
         Side::new(Rust, move |clock| {
             let mut table = Poly::new(whole.clone());
@@ -109,8 +109,8 @@ fn fix(input: &Input, n: usize, ours: Fix, rust: RustFix) -> Vec<Side<'_>> {
         }),
         Side::new(Ours, move |clock| {
             words.copy_from_slice(entries);
-            assert_eq!(clock.once(|| ours(&SCALE, &mut words, &mut count)), 0);
-            clock.leaves(|| words[..4 * count[0] as usize].to_vec());
+            assert_eq!(clock.once(|| ours(SCALE, &mut words, &mut count)), 0);
+            clock.leaves(|| words[..4 * count as usize].to_vec());
         }),
     ]
 }

@@ -14,7 +14,7 @@ macro_rules! operations {
             3: EqualityWeightsLsb = equality_weights_lsb(a, out);
             4: EvalEq = eval_eq(a, b, out);
             5: EvalNext = eval_next(a, b, out);
-            6: EvalSelect = eval_select(a, word, out);
+            6: EvalSelect = eval_select(a, number, out);
             7: NewFromPoint = new_from_point(a, b, out);
             8: NewNextFromPoint = new_next_from_point(a, out);
             9: EvalEqBatch = eval_eq_batch(a, b, number, out);
@@ -31,10 +31,10 @@ macro_rules! operations {
             20: CompressSuffix = compress_suffix(a, b, c, work, out);
             21: CompressPrefixShifted = compress_prefix_shifted(a, b, c, work, out);
             22: CompressSuffixShifted = compress_suffix_shifted(a, b, c, work, out);
-            23: FixPrefixVarMut = fix_prefix_var_mut(a, work, out);
-            24: FixSuffixVarMut = fix_suffix_var_mut(a, work, out);
-            25: FixPrefixVarMutMonomial = fix_prefix_var_mut_monomial(a, work, out);
-            26: SumPrefixVarMut = sum_prefix_var_mut(work, out);
+            23: FixPrefixVarMut = fix_prefix_var_mut(a, work, count);
+            24: FixSuffixVarMut = fix_suffix_var_mut(a, work, count);
+            25: FixPrefixVarMutMonomial = fix_prefix_var_mut_monomial(a, work, count);
+            26: SumPrefixVarMut = sum_prefix_var_mut(work, count);
         }
     };
 }
@@ -129,6 +129,13 @@ impl Operation {
             FixPrefixVarMut | FixSuffixVarMut | FixPrefixVarMutMonomial => [4, 0, 0, 4 << n, 1],
             SumPrefixVarMut => [0, 0, 0, 4 << n, 1],
         }
+    }
+
+    /// The length of a slice that has one, whatever n and m are: of a scale, a given
+    /// scale or r, and of an out of single elements or a count.
+    pub fn one_length(self, slice: Slice) -> Option<usize> {
+        let [length, other] = [(1, 0), (3, 1)].map(|(n, m)| self.lengths(n, m)[slice as usize]);
+        (length == other).then_some(length)
     }
 
     /// Whether its table, the first slice, is of base words.

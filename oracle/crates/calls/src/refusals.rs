@@ -1,8 +1,7 @@
-//! Document 01's refusals. A 4 at the head of a list is the host library's own:
-//! an answer, a scale or an r of another length.
+//! Document 01's refusals.
 
 use crate::Operation::*;
-use crate::{Call, P};
+use crate::{Call, P, Slice};
 
 /// The most variables or coordinates.
 pub const MOST: u64 = 20;
@@ -29,10 +28,13 @@ impl Call {
         }
     }
 
-    /// The places in that list of the refusals whose tests hold.
-    pub fn holding(&self) -> Vec<usize> {
-        let refusals = self.refusals();
-        (0..refusals.len()).filter(|&i| refusals[i].0).collect()
+    /// A slice has another length than the one that it must have: no call.
+    pub fn misfits(&self) -> bool {
+        let misfits = |slice| {
+            let length = self.operation.one_length(slice);
+            length.is_some_and(|length| self.slices[slice as usize].len() != length)
+        };
+        Slice::ALL.into_iter().any(misfits)
     }
 
     /// A batch of no points: accepted, nothing read, out kept.
@@ -49,39 +51,31 @@ impl Call {
         let k = entries(point);
         if self.operation == EqualityAtVertex {
             return vec![
-                (out.len() != 4, 4),
                 (splits([point]), 1),
                 (k > MOST, 3),
                 (unreduced([point]), 5),
                 (rows(k).is_some_and(|rows| self.number >= rows), 7),
             ];
         }
-        let mut tests = vec![
+        vec![
             (splits([point, out]), 1),
             (k > MOST, 3),
             (rows(k) != Some(entries(out)), 4),
             (unreduced([point, scale]), 5),
-        ];
-        if self.operation == NewFromPoint {
-            tests.insert(0, (scale.len() != 4, 4));
-        }
-        tests
+        ]
     }
 
     fn of_products(&self) -> Tests {
-        let [point, row, _, _, out] = self.words();
+        let [point, row, ..] = self.words();
         let k = entries(point);
         if self.operation == EvalSelect {
             return vec![
-                (out.len() != 4, 4),
                 (splits([point]), 1),
                 (k > MOST, 3),
                 (unreduced([point]) || self.number >= P as u64, 5),
             ];
         }
-        let answers = if self.operation == EvalNext { 12 } else { 4 };
         vec![
-            (out.len() != answers, 4),
             (splits([point, row]), 1),
             (k > MOST || entries(row) > MOST, 3),
             (k != entries(row), 4),
@@ -117,7 +111,6 @@ impl Call {
             false => k != n,
         };
         vec![
-            (split && scale.len() != 4 || !folds && out.len() != 4, 4),
             (splits([point, work, out]) || !base && splits([table]), 1),
             (!count.is_power_of_two(), 2),
             (over(count) || k > MOST, 3),
@@ -131,7 +124,6 @@ impl Call {
         let (k, count) = (entries(point), entries(out));
         if self.operation == LastScalar {
             return vec![
-                (scale.len() != 4 || out.len() != 4, 4),
                 (splits([point, work]), 1),
                 (k > MOST, 3),
                 (misfits(work, k), 4),
@@ -139,7 +131,6 @@ impl Call {
             ];
         }
         vec![
-            (scale.len() != 4 || given.len() != 4, 4),
             (splits([point, work, out]), 1),
             (!count.is_power_of_two(), 2),
             (over(count) || k > MOST, 3),
@@ -149,11 +140,10 @@ impl Call {
     }
 
     fn of_fixing(&self) -> Tests {
-        let [r, _, _, table, out] = self.words();
+        let [r, _, _, table, _] = self.words();
         let sums = self.operation == SumPrefixVarMut;
         let count = entries(table);
         let mut tests = vec![
-            (!sums && r.len() != 4 || out.len() != 1, 4),
             (splits([table]), 1),
             (!count.is_power_of_two(), 2),
             (over(count), 3),

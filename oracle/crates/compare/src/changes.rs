@@ -2,6 +2,7 @@
 //! refused for two reasons.
 
 use calls::{Random, UNREDUCED};
+use host::COORDINATES;
 
 use crate::step::Kind::{Close, Feed};
 use crate::step::{CLOSED, K, N, POINT, SCALE, SIDE, Step, TAKEN, WEIGHT, WORDS};
@@ -29,8 +30,6 @@ pub const OPEN: &[Change] = &[
     |step, random| spoil(&mut step.scale, random),
     |step, random| step.side = pick(random, [2, u32::MAX]),
     |step, random| step.weight = pick(random, [3, u32::MAX]),
-    |step, random| step.scale.resize(pick(random, [0, 3, 5]), 0),
-    |step, random| step.words.resize(pick(random, [0, 89, 91]), 0),
 ];
 
 /// Changes of a call of feed or close.
@@ -38,7 +37,7 @@ pub const OPENED: &[Change] = &[
     |step, _| step.kind = Feed,
     |step, _| step.kind = Close,
     |step, random| {
-        let [n, taken] = [N, TAKEN].map(|at| step.words.get(at).copied().unwrap_or(0));
+        let [n, taken] = [N, TAKEN].map(|at| step.words[at]);
         let left = (1usize << n.min(20)).saturating_sub(taken as usize);
         step.piece.resize(left + 1 + random.below(3) as usize, 1);
     },
@@ -63,17 +62,16 @@ pub const OPENED: &[Change] = &[
         put(step, at, pick(random, UNREDUCED));
     },
     |step, random| {
-        let at = POINT + random.below(80) as usize;
+        let at = POINT + random.below(COORDINATES as u32) as usize;
         put(step, at, pick(random, UNREDUCED));
     },
     |step, random| {
-        let unused = 80 - step.point.len() as u32;
-        put(step, WORDS - 1 - random.below(unused) as usize, 1);
+        let unused = COORDINATES - step.point.len();
+        put(step, WORDS - 1 - random.below(unused as u32) as usize, 1);
     },
     |step, random| put(step, SIDE, pick(random, [2, u32::MAX])),
     |step, random| put(step, WEIGHT, pick(random, [3, u32::MAX])),
     |step, random| put(step, CLOSED, pick(random, [2, u32::MAX])),
-    |step, random| step.words.resize(pick(random, [1, 89, 91]), 0),
 ];
 
 fn pick<T: Copy, const COUNT: usize>(random: &mut Random, from: [T; COUNT]) -> T {
@@ -82,9 +80,7 @@ fn pick<T: Copy, const COUNT: usize>(random: &mut Random, from: [T; COUNT]) -> T
 
 /// A word of the session becomes this.
 fn put(step: &mut Step, at: usize, word: u32) {
-    if let Some(place) = step.words.get_mut(at) {
-        *place = word;
-    }
+    step.words[at] = word;
 }
 
 /// A word becomes one that is not below p; where there is none, it gets one.

@@ -1,13 +1,10 @@
 //! The element operations against the stand-ins' arithmetic.
 
-use calls::{LIMITS, P, UNREDUCED, element, expect};
+use calls::{LIMITS, P, UNREDUCED, element, expect, unreduced};
 use p3_field::{Base, Element, PrimeCharacteristicRing};
 
 use crate::run::Input::{Number, Words};
 use crate::run::{Run, call, choices};
-
-/// Lengths of a slice that should have four words, the right one among them.
-const LENGTHS: [usize; 5] = [4, 0, 3, 5, 8];
 
 /// An operation on elements and single words. Operands have a name and a width
 /// in words, 4 for an element and 1 for a word, which passes as a number.
@@ -15,21 +12,25 @@ struct Operation<'a, const N: usize> {
     operands: [(&'static str, usize); N],
     /// A number that has no limits, and is only shown.
     times: Option<u64>,
-    ours: &'a dyn Fn([&[u32]; N], &mut [u32]) -> u32,
+    ours: &'a dyn Fn([&[u32]; N], &mut [u32; 4]) -> u32,
     standin: &'a dyn Fn([&[u32]; N]) -> Element,
 }
 
 impl<const N: usize> Operation<'_, N> {
-    /// One case, of whatever lengths and words.
-    fn case(&self, run: &mut Run, operands: [&[u32]; N], out: &[u32]) {
-        let misfits = (0..N).any(|i| operands[i].len() != self.operands[i].1) || out.len() != 4;
-        let unreduced = operands
-            .iter()
-            .any(|words| words.iter().any(|&word| word >= P));
-        let expected = expect(&[(misfits, 4), (unreduced, 5)], [out], || {
+    /// One case, the operands' words being given one after the other.
+    fn case(&self, run: &mut Run, words: &[u32]) {
+        let mut start = 0;
+        let operands = self.operands.map(|(_, width)| {
+            start += width;
+            &words[start - width..start]
+        });
+        let out = &run.random.stale(4)[..];
+        let expected = expect(&[(unreduced([words]), 5)], [out], || {
             [(self.standin)(operands).words().to_vec()]
         });
-        let got = call([out], |[out]| (self.ours)(operands, out));
+        let got = call([out], |[out]| {
+            (self.ours)(operands, out.try_into().unwrap())
+        });
         let mut inputs: Vec<_> = (0..N)
             .map(|i| (self.operands[i].0, Words(operands[i])))
             .collect();
@@ -38,21 +39,10 @@ impl<const N: usize> Operation<'_, N> {
         run.same(&inputs, &[expected], &got);
     }
 
-    /// The same, the operands' words being given one after the other.
-    fn joined(&self, run: &mut Run, words: &[u32]) {
-        let mut start = 0;
-        let operands = self.operands.map(|(_, width)| {
-            start += width;
-            &words[start - width..start]
-        });
-        let out = run.random.stale(4);
-        self.case(run, operands, &out);
-    }
-
     /// Every choice of limits for all words, as many limits as `most` allows.
     fn limits(&self, run: &mut Run, most: usize) {
         for words in choices(&LIMITS, self.width(), most) {
-            self.joined(run, &words);
+            self.case(run, &words);
         }
     }
 
@@ -60,7 +50,7 @@ impl<const N: usize> Operation<'_, N> {
     fn random(&self, run: &mut Run, count: usize) {
         for _ in 0..count {
             let words = run.random.words(self.width());
-            self.joined(run, &words);
+            self.case(run, &words);
         }
     }
 
@@ -73,33 +63,14 @@ impl<const N: usize> Operation<'_, N> {
                     let mut words = run.random.words(width);
                     words[other] = UNREDUCED[run.random.below(4) as usize];
                     words[place] = word;
-                    self.joined(run, &words);
+                    self.case(run, &words);
                     if place == other {
                         // Beside words at the limits.
                         words = vec![P - 1; width];
                         words[place] = word;
-                        self.joined(run, &words);
+                        self.case(run, &words);
                     }
                 }
-            }
-        }
-    }
-
-    /// Every choice of lengths, with reduced words and with others among them.
-    fn lengths(&self, run: &mut Run) {
-        let slices = N as u32 + 1;
-        for choice in 0..LENGTHS.len().pow(slices) {
-            let length = |i: usize| LENGTHS[choice / LENGTHS.len().pow(i as u32) % LENGTHS.len()];
-            for damaged in 0..=N {
-                let mut operands: [Vec<u32>; N] = std::array::from_fn(|i| {
-                    let width = self.operands[i].1;
-                    run.random.words(if width == 4 { length(i) } else { width })
-                });
-                if let Some(word) = operands.get_mut(damaged).and_then(|words| words.last_mut()) {
-                    *word = P;
-                }
-                let out = run.random.stale(length(N));
-                self.case(run, operands.each_ref().map(Vec::as_slice), &out);
             }
         }
     }
@@ -113,8 +84,12 @@ impl<const N: usize> Operation<'_, N> {
         self.limits(run, run.count(70_000, 6_000_000));
         self.random(run, run.count(200_000, 5_000_000));
         self.unreduced(run);
-        self.lengths(run);
     }
+}
+
+/// An element's words as an array.
+fn four(words: &[u32]) -> &[u32; 4] {
+    words.try_into().unwrap()
 }
 
 const X: (&str, usize) = ("x", 4);
@@ -124,13 +99,13 @@ const WORD: (&str, usize) = ("word", 1);
 fn binary(
     run: &mut Run,
     name: &'static str,
-    ours: fn(&[u32], &[u32], &mut [u32]) -> u32,
+    ours: fn(&[u32; 4], &[u32; 4], &mut [u32; 4]) -> u32,
     standin: fn(Element, Element) -> Element,
 ) {
     let operation = Operation {
         operands: [X, Y],
         times: None,
-        ours: &|[x, y], out| ours(x, y, out),
+        ours: &|[x, y], out| ours(four(x), four(y), out),
         standin: &|[x, y]| standin(element(x), element(y)),
     };
     run.operation(name, |run| operation.all(run));
@@ -139,13 +114,13 @@ fn binary(
 fn unary(
     run: &mut Run,
     name: &'static str,
-    ours: fn(&[u32], &mut [u32]) -> u32,
+    ours: fn(&[u32; 4], &mut [u32; 4]) -> u32,
     standin: fn(Element) -> Element,
 ) {
     let operation = Operation {
         operands: [X],
         times: None,
-        ours: &|[x], out| ours(x, out),
+        ours: &|[x], out| ours(four(x), out),
         standin: &|[x]| standin(element(x)),
     };
     run.operation(name, |run| operation.all(run));
@@ -168,7 +143,7 @@ fn mul_repeat(run: &mut Run, times: u64, cases: impl FnOnce(&Operation<2>, &mut 
     let operation = Operation {
         operands: [X, Y],
         times: Some(times),
-        ours: &|[x, y], out| host::mul_repeat(x, y, times, out),
+        ours: &|[x, y], out| host::mul_repeat(four(x), four(y), times, out),
         standin: &|[x, y]| element(x) * power(element(y), times),
     };
     cases(&operation, run);
@@ -184,7 +159,7 @@ pub fn compare(run: &mut Run) {
     let mul_base = Operation {
         operands: [X, WORD],
         times: None,
-        ours: &|[x, word], out| host::mul_base(x, word[0], out),
+        ours: &|[x, word], out| host::mul_base(four(x), word[0], out),
         standin: &|[x, word]| element(x) * Base::new(word[0]),
     };
     run.operation("host_mul_base", |run| mul_base.all(run));
@@ -203,7 +178,6 @@ pub fn compare(run: &mut Run) {
                 operation.limits(run, 7_000);
                 operation.random(run, 1_000);
                 operation.unreduced(run);
-                operation.lengths(run);
             });
         }
         for _ in 0..run.count(2_000, 20_000) {

@@ -4,7 +4,7 @@ use calls::Damage::{Length, Word};
 use calls::Operation::{
     FixPrefixVarMut, FixPrefixVarMutMonomial, FixSuffixVarMut, SumPrefixVarMut,
 };
-use calls::Slice::{Out, Work};
+use calls::Slice::Work;
 use calls::{P, Place};
 
 use crate::operation::operation;
@@ -22,7 +22,6 @@ pub fn compare(run: &mut Run) {
             // Over 20 variables beside every other refusal.
             let words = 4 << 21;
             let changes = [
-                Length(Out, 2),
                 Length(Work, words + 1),
                 Length(Work, words + 4),
                 Word(Work, Place::Last, P),

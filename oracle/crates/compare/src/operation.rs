@@ -26,8 +26,8 @@ pub trait Library {
 struct Host;
 
 impl Library for Host {
-    fn takes(&self, _: &Call) -> bool {
-        true
+    fn takes(&self, given: &Call) -> bool {
+        !given.misfits()
     }
 
     fn refusals(&self, given: &Call) -> Tests {

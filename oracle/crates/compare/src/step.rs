@@ -7,9 +7,11 @@ use calls::Operation::{
 use calls::{Call, MOST, Operation, Outcome, element, entries, rows, splits, unreduced};
 use p3_field::{Base, Element, PrimeCharacteristicRing};
 
+use host::{COORDINATES, HEAD};
+
 use Kind::{Close, Feed, Open};
 
-/// The places among a session's words, and their count.
+/// The places among a session's words, and their count: the head, and the coordinates.
 pub const N: usize = 0;
 pub const K: usize = 1;
 pub const SIDE: usize = 2;
@@ -17,10 +19,10 @@ pub const WEIGHT: usize = 3;
 pub const TAKEN: usize = 4;
 pub const CLOSED: usize = 5;
 pub const SCALE: usize = 6;
-pub const POINT: usize = 10;
-pub const WORDS: usize = 90;
+pub const POINT: usize = HEAD;
+pub const WORDS: usize = HEAD + COORDINATES;
 
-/// The host library's own answer where words or arguments are no session's.
+/// The host library's own answer where numbers are no session's.
 pub const NO_SESSION: u32 = 255;
 
 #[derive(Clone, Copy, Debug, PartialEq, Eq, PartialOrd, Ord)]
@@ -50,10 +52,13 @@ impl Step {
     /// The call through C.
     pub fn ours(&self, words: &mut [u32], out: &mut [u32]) -> u32 {
         let (n, side, weight) = (self.n, self.side, self.weight);
+        let scale = self.scale[..].try_into().unwrap();
+        let (head, point) = words.split_at_mut(HEAD);
+        let (head, point) = (head.try_into().unwrap(), point.try_into().unwrap());
         match self.kind {
-            Open => host::session_open(&self.point, &self.scale, n, side, weight, words, out),
-            Feed => host::session_feed(&self.piece, words, out),
-            Close => host::session_close(words, out),
+            Open => host::session_open(&self.point, scale, n, side, weight, out, head, point),
+            Feed => host::session_feed(&self.piece, out, head, point),
+            Close => host::session_close(out, head, point),
         }
     }
 
@@ -91,11 +96,8 @@ impl Step {
     }
 
     fn is_no_session(&self) -> bool {
-        if self.words.len() != WORDS {
-            return true;
-        }
         match self.kind {
-            Open => self.scale.len() != 4 || self.side > 1 || self.weight > 2,
+            Open => self.side > 1 || self.weight > 2,
             _ => self.words[SIDE] > 1 || self.words[WEIGHT] > 2 || self.words[CLOSED] > 1,
         }
     }

@@ -43,8 +43,8 @@ impl Library for Ward {
         !given.operation.folds() || given.slices[Slice::C as usize].len() == 4
     }
 
-    /// A fold's are those of the call on words, whose first test is the scale's
-    /// length. The others test out as a slice of elements, its length after 3.
+    /// A fold's are those of the call on words. The others test out as a slice of
+    /// elements, its length after 3.
     fn refusals(&self, given: &Call) -> Tests {
         let [point, row, _, _, out] = given.slices.each_ref().map(Vec::as_slice);
         let k = entries(point);
@@ -62,37 +62,31 @@ impl Library for Ward {
                 (k != entries(row) || entries(out) != 3, 4),
                 (unreduced([point, row]), 5),
             ],
-            _ => given.refusals().split_off(1),
+            _ => given.refusals(),
         }
     }
 
-    /// By document 01 with the values of the call on words; and where both test
-    /// the same, by that call alone. Then the same with bytes that split a word.
+    /// By document 01 with the values of the call on words; and where there is such
+    /// a call, by that call alone. Then the same with bytes that split a word.
     fn compare(&self, run: &mut Run, given: &Call) {
         let mut octets = Octets::new(given);
-        let by_words = call(given.lent(), |[work, out]| ours(given, work, out));
-        let by_words = Outcome {
-            answer: by_words.answer,
-            lent: by_words.lent.map(|words| word_bytes(&words)),
-        };
+        let by_words = (!given.misfits()).then(|| {
+            let by_words = call(given.lent(), |[work, out]| ours(given, work, out));
+            Outcome {
+                answer: by_words.answer,
+                lent: by_words.lent.map(|words| word_bytes(&words)),
+            }
+        });
         let mut expected = vec![expect(&self.refusals(given), octets.lent(), || {
-            by_words.lent.clone()
+            by_words.clone().unwrap().lent
         })];
-        if given.operation.folds() || fits(given) {
-            expected.push(by_words);
-        }
+        expected.extend(by_words);
         octets.compare(run, &expected);
 
         octets.split(&mut run.random);
         let expected = expect(&[(true, 1)], octets.lent(), || unreachable!());
         octets.compare(run, &[expected]);
     }
-}
-
-/// Out has the elements of the answer: the call on words asks that first.
-fn fits(given: &Call) -> bool {
-    let [.., fitting] = given.operation.lengths(0, 0);
-    given.slices[Slice::Out as usize].len() == fitting
 }
 
 /// A call on bytes.

@@ -3,7 +3,7 @@
 use calls::Operation::*;
 use calls::{Call, Damage, Operation, Random, Slice};
 
-use crate::{BEFORE, MOST_OUT, size};
+use crate::{BEFORE, MOST_OUT, size, tests};
 
 /// Small numbers, random elements, and a batch at its limits.
 pub fn whole(operation: Operation, random: &mut Random) -> Vec<Call> {
@@ -86,13 +86,13 @@ pub fn damaged(operation: Operation, random: &mut Random) -> Vec<Call> {
     let mut pick = |wanted: &dyn Fn(&[usize]) -> bool| {
         let mut wanted: Vec<_> = candidates
             .iter()
-            .filter(|call| wanted(&call.holding()))
+            .filter(|call| wanted(&holding(call)))
             .collect();
         let least = wanted.iter().map(|call| cost(call)).min()?;
         wanted.retain(|call| cost(call) == least);
         Some(wanted[random.below(wanted.len() as u32) as usize].clone())
     };
-    let last = small(operation, 1).refusals().len() - 1;
+    let last = tests(&small(operation, 1)).len() - 1;
     let both = pick(&|holding| holding.starts_with(&[0]) && holding.ends_with(&[last]));
     let each = (1..=last).filter_map(|i| pick(&|holding| holding.first() == Some(&i)));
     both.into_iter().chain(each).collect()
@@ -100,7 +100,13 @@ pub fn damaged(operation: Operation, random: &mut Random) -> Vec<Call> {
 
 /// Short records are wanted, and refusals that come alone.
 fn cost(call: &Call) -> usize {
-    size(call) + 16 * call.holding().len()
+    size(call) + 16 * holding(call).len()
+}
+
+/// The places among its tests of those that hold.
+fn holding(call: &Call) -> Vec<usize> {
+    let tests = tests(call);
+    (0..tests.len()).filter(|&i| tests[i].0).collect()
 }
 
 /// Calls with two changes, short enough for a record.

@@ -24,7 +24,7 @@ loop-again c = turn (c .before .before .loop .inv) (c .before .loop-test .taken)
 returns : tie.Need-returns Inv-loop μ-loop
 returns c =
     let start = c .before .before .before .before .before in
-    end (c .before .loop .inv) (start .pre .0) (start .pre .1) (c .before .before .smaller .ensures) (c .loop-test .left)
+    end (c .before .loop .inv) (start .pre .0) (start .pre .1) (c .before .before .min .ensures) (c .loop-test .left)
 
 pub hold-spec : {M : Type 1} → statement M
 hold-spec =

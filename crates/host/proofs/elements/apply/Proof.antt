@@ -1,56 +1,33 @@
--- `host::elements::apply` meets its contract. Assumes nothing.
-use native.Mathlib.Omega.{arith}
+-- `host::elements::apply` meets its contract, by the tests of both operands. Assumes nothing.
+use mathlib.Core.Path.{sym, _∙_}
 use borrow.Author.Needs.{needs}
-use Rattle.host.proofs.Applying.{Ready, ready, done, refused}
+use Rattle.field.specs.Field.{Reduced}
+use Rattle.host.proofs.Applying.{refused, done}
 use Rattle.host.proofs.elements.apply.Statement.{statement}
 use Rattle.host.proofs.elements.apply.Tie as tie
 
-abbrev start : tie.After-enum-told2 → tie.Start
-start s = s .before .before .before .before .before .before .before
-
-fit : (s : tie.After-enum-told2) → Ready (start s .args .x .now) (start s .args .y .now) (start s .args .out .now)
-fit s = ready _ _ _ (s .enum-told2 .given .1) (s .before .before .test .ensures)
-
-get-requires : tie.Need-get-requires
-get-requires c κs = omega (arith, fit c .x-four)
-
-get-requires-2 : tie.Need-get-requires-2
-get-requires-2 c κs = omega (arith, fit (c .before) .y-four)
-
-element-requires : tie.Need-element-requires
-element-requires c κs =
-    let h = fit (c .before .before) in
-    (rw (c .before .get .ensures) (h .x-below), rw (c .get2 .ensures) (h .y-below))
-
-put-requires : tie.Need-put-requires
-put-requires c κs = omega (arith, fit (c .before .before .before .before) .out-four)
-
 returns : tie.Need-returns
-returns c =
-    let told = c .before in
-    refused _ _ _ _ (told .enum-told .given .1) (told .before .before .test .ensures) (c .answer .ensures)
+returns c = refused _ _ _ _ (rw (← c .before .unreduced .ensures, c .if1 .taken))
 
 returns-2 : tie.Need-returns-2
 returns-2 c =
-    let put = c .before .before in
-    let e = put .before .before in
-    let told = e .before .before .before in
-    done _ _ _ _ _ (told .enum-told2 .given .1) (told .before .before .test .ensures)
-    (rw (e .before .before .get .ensures, e .before .get2 .ensures) at (e .element .ensures)) (put .put .ensures)
+    let first = c .before .before .before in
+    refused _ _ _ _ (rw (← first .before .unreduced .ensures, first .if1 .left, ← c .before .unreduced2 .ensures, c .if2 .taken))
+
+element-requires : tie.Need-element-requires
+element-requires c κs =
+    let second = c .before .before in
+    let first = second .before .before .before in (
+      record { words-below = sym (first .before .unreduced .ensures) ∙ first .if1 .left },
+      record { words-below = sym (second .before .unreduced2 .ensures) ∙ second .if2 .left },
+    )
+
+returns-3 : tie.Need-returns-3
+returns-3 c =
+    let second = c .before .before .before .before in
+    let first = second .before .before .before in
+    done _ _ _ _ (rw (← first .before .unreduced .ensures, first .if1 .left, ← second .before .unreduced2 .ensures, second .if2 .left))
+    (c .before .element .ensures)
 
 pub apply-spec : {M : Type 1} → statement M
-apply-spec =
-    tie.close
-    (tie.spec
-    (λ c κs. search needs)
-    (search needs)
-    (λ c κs. search needs)
-    (search needs)
-    get-requires
-    get-requires-2
-    element-requires
-    put-requires
-    (search needs)
-    returns
-    (search needs)
-    returns-2)
+apply-spec = tie.close (tie.spec (λ c κs. search needs) returns (λ c κs. search needs) returns-2 element-requires returns-3)

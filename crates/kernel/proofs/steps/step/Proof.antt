@@ -1,7 +1,7 @@
 -- `kernel::steps::step` meets its contract. Assumes nothing.
 use borrow.Author.Needs.{needs}
 use Rattle.field.proofs.Laws.{word-below, holds}
-use Rattle.kernel.proofs.Settling.{gain-law}
+use Rattle.kernel.proofs.Columns.{gain-law}
 use Rattle.kernel.proofs.steps.step.Statement.{statement}
 use Rattle.kernel.proofs.steps.step.Tie as tie
 

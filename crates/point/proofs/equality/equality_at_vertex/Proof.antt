@@ -1,14 +1,16 @@
 -- `point::equality::equality_at_vertex` meets its contract: by the tests' answer. Assumes nothing.
 use borrow.Author.Needs.{needs}
-use Rattle.point.specs.Point.{vertexAnswer}
-use Rattle.point.proofs.Coordinates.{vertex-accepted}
 use Rattle.table.proofs.Outcomes.{refused-as, evaluated-as}
-use Rattle.table.proofs.Answers.{answer-as}
+use Rattle.table.proofs.Says.{accepted}
+use Rattle.point.specs.Point.{vertexAnswer}
+use Rattle.point.proofs.Coordinates.{point-says}
 use Rattle.point.proofs.equality.equality_at_vertex.Statement.{statement}
 use Rattle.point.proofs.equality.equality_at_vertex.Tie as tie
 
 at-row-requires : tie.Need-at-row-requires
-at-row-requires c κs = vertex-accepted _ _ (answer-as (c .enum-told .given .1) (c .before .before .test-vertex .ensures))
+at-row-requires c κs =
+    let h = accepted _ tt (c .enum-told .given .1) (c .before .before .test-vertex .ensures) in
+    search point-says
 
 returns : tie.Need-returns
 unfolding vertexAnswer
@@ -25,11 +27,4 @@ returns-2 c =
 pub equality-at-vertex-spec : {M : Type 1} → statement M
 equality-at-vertex-spec =
     tie.close
-    (tie.spec
-    (search needs)
-    (λ c. search needs)
-    (λ c. search needs)
-    at-row-requires
-    (search needs)
-    returns
-    returns-2)
+    (tie.spec (search needs) (λ c. search needs) (λ c. search needs) at-row-requires (search needs) returns returns-2)

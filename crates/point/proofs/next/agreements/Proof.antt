@@ -7,10 +7,10 @@ use Rattle.point.proofs.next.agreements.Statement.{statement}
 use Rattle.point.proofs.next.agreements.Tie as tie
 
 abbrev Inv-loop : tie.InvT-loop
-Inv-loop point row k product₀ j₀ product j = Agreed point row k j product
+Inv-loop point other k product₀ j₀ product j = Agreed point other k j product
 
 abbrev μ-loop : tie.MeasureT-loop
-μ-loop point row k product₀ j₀ product j = j
+μ-loop point other k product₀ j₀ product j = j
 
 loop-holds : tie.Need-loop-holds Inv-loop μ-loop
 loop-holds c = agreed-start _ _ _ (c .one .ensures)

@@ -1,20 +1,32 @@
 -- `point::next::eval_next` meets its contract: by the tests' verdict. Assumes nothing.
+use mathlib.Core.Path.{_≡_}
 use borrow.Author.Needs.{needs}
-use Rattle.point.proofs.PairOutcomes.{tested, next-given, next-refused}
-use Rattle.table.proofs.Answers.{answer-as}
+use Rattle.table.specs.Table.{entries}
+use Rattle.table.proofs.Answers.{answer-as, kept}
+use Rattle.table.proofs.Says.{accepted}
+use Rattle.table.proofs.Tests.{same}
+use Rattle.point.specs.Point.{evalNextAnswer}
+use Rattle.point.proofs.Coordinates.{point-says}
 use Rattle.point.proofs.next.eval_next.Statement.{statement}
 use Rattle.point.proofs.next.eval_next.Tie as tie
 
 next-parts-requires : tie.Need-next-parts-requires
-next-parts-requires c κs = tested _ _ (answer-as (c .enum-told .given .1) (c .before .before .test-pair .ensures))
+next-parts-requires c κs =
+    let h = accepted _ tt (c .enum-told .given .1) (c .before .before .test-pair .ensures) in
+    search point-says
 
 returns : tie.Need-returns
-returns c = next-refused _ _ (c .before .tested .given .1) (c .before .before .before .test-pair .ensures)
+unfolding evalNextAnswer
+returns c = rw (← answer-as (c .before .tested .given .1) (c .before .before .before .test-pair .ensures), kept)
 
 returns-2 : tie.Need-returns-2
+unfolding evalNextAnswer
 returns-2 c =
     let told = c .before in
-    next-given _ _ (told .enum-told .given .1) (told .before .before .test-pair .ensures) (c .next-parts .ensures)
+    let of = told .before .before .before .before .before .args in
+    let h = accepted _ tt (told .enum-told .given .1) (told .before .before .test-pair .ensures) in
+    let q : entries (of .point .now) ≡ entries (of .other .now) = search same in
+    rw (← answer-as (told .enum-told .given .1) (told .before .before .test-pair .ensures), ← q) (c .next-parts .ensures)
 
 pub eval-next-spec : {M : Type 1} → statement M
 eval-next-spec =

@@ -7,10 +7,10 @@ use Rattle.point.proofs.next.next_parts.Statement.{statement}
 use Rattle.point.proofs.next.next_parts.Tie as tie
 
 abbrev Inv-loop : tie.InvT-loop
-Inv-loop point row k carry₀ done₀ omega₀ j₀ carry done omega j = Nexting point row k j carry done omega
+Inv-loop point other k carry₀ done₀ omega₀ j₀ carry done omega j = Nexting point other k j carry done omega
 
 abbrev μ-loop : tie.MeasureT-loop
-μ-loop point row k carry₀ done₀ omega₀ j₀ carry done omega j = j
+μ-loop point other k carry₀ done₀ omega₀ j₀ carry done omega j = j
 
 loop-holds : tie.Need-loop-holds Inv-loop μ-loop
 loop-holds c = next-start _ _ _ (c .before .before .one .ensures) (c .before .zero .ensures) (c .one2 .ensures)

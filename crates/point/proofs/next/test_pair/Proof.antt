@@ -1,6 +1,6 @@
 -- `point::next::test_pair` meets its contract: the tests in order. Assumes nothing.
 use borrow.Author.Needs.{needs}
-use Rattle.table.proofs.Verdicts.{gone-through}
+use Rattle.table.proofs.Verdicts.{gone-through, by-test}
 use Rattle.point.proofs.next.test_pair.Statement.{statement}
 use Rattle.point.proofs.next.test_pair.Tie as tie
 
@@ -14,38 +14,17 @@ returns c =
     let whole = split .before .before in
     gone-through _ tt
     (rw (
-      c .refuse-if7 .ensures,
-      c .before .unreduced2 .ensures,
-      below .refuse-if6 .ensures,
-      below .before .unreduced .ensures,
-      lengths .refuse-if5 .ensures,
-      lengths .before .lengths-differ .ensures,
-      many .refuse-if4 .ensures,
-      many .before .too-many2 .ensures,
-      few .refuse-if3 .ensures,
-      few .before .too-many .ensures,
-      split .refuse-if2 .ensures,
-      split .before .splits2 .ensures,
-      whole .refuse-if .ensures,
-      whole .before .splits .ensures,
+      by-test _ _ (c .refuse-if7 .ensures) (c .before .unreduced2 .ensures),
+      by-test _ _ (below .refuse-if6 .ensures) (below .before .unreduced .ensures),
+      by-test _ _ (lengths .refuse-if5 .ensures) (lengths .before .lengths-differ .ensures),
+      by-test _ _ (many .refuse-if4 .ensures) (many .before .too-many2 .ensures),
+      by-test _ _ (few .refuse-if3 .ensures) (few .before .too-many .ensures),
+      by-test _ _ (split .refuse-if2 .ensures) (split .before .splits2 .ensures),
+      by-test _ _ (whole .refuse-if .ensures) (whole .before .splits .ensures),
     ))
 
 pub test-pair-spec : {M : Type 1} → statement M
 test-pair-spec =
     tie.close
-    (tie.spec
-    (search needs)
-    (search needs)
-    (search needs)
-    (search needs)
-    (search needs)
-    (search needs)
-    (search needs)
-    (search needs)
-    (search needs)
-    (search needs)
-    (search needs)
-    (search needs)
-    (search needs)
-    (search needs)
-    returns)
+    (tie.spec (search needs) (search needs) (search needs) (search needs) (search needs) (search needs) (search needs)
+    (search needs) (search needs) (search needs) (search needs) (search needs) (search needs) (search needs) returns)

@@ -1,14 +1,16 @@
 -- `point::select::eval_select` meets its contract: by the tests' verdict. Assumes nothing.
 use borrow.Author.Needs.{needs}
-use Rattle.point.specs.Point.{evalSelectAnswer}
 use Rattle.table.proofs.Outcomes.{refused-as, evaluated-as}
-use Rattle.point.proofs.PairOutcomes.{select-tested}
-use Rattle.table.proofs.Answers.{answer-as}
+use Rattle.table.proofs.Says.{accepted}
+use Rattle.point.specs.Point.{evalSelectAnswer}
+use Rattle.point.proofs.Coordinates.{point-says}
 use Rattle.point.proofs.select.eval_select.Statement.{statement}
 use Rattle.point.proofs.select.eval_select.Tie as tie
 
 selection-requires : tie.Need-selection-requires
-selection-requires c κs = select-tested _ _ (answer-as (c .enum-told .given .1) (c .before .before .test-select .ensures))
+selection-requires c κs =
+    let h = accepted _ tt (c .enum-told .given .1) (c .before .before .test-select .ensures) in
+    search point-says
 
 returns : tie.Need-returns
 unfolding evalSelectAnswer

@@ -5,30 +5,9 @@ use Rattle.point.proofs.select.test_select.Statement.{statement}
 use Rattle.point.proofs.select.test_select.Tie as tie
 
 returns : tie.Need-returns
-returns c =
-    let below = c .before in
-    let few = below .before .before in
-    let whole = few .before .before in
-    gone-through _ tt
-    (rw (
-      c .refuse-if4 .ensures,
-      below .refuse-if3 .ensures,
-      below .before .unreduced .ensures,
-      few .refuse-if2 .ensures,
-      few .before .too-many .ensures,
-      whole .refuse-if .ensures,
-      whole .before .splits .ensures,
-    ))
+returns c = gone-through _ tt (cc)
 
 pub test-select-spec : {M : Type 1} → statement M
 test-select-spec =
     tie.close
-    (tie.spec
-    (search needs)
-    (search needs)
-    (search needs)
-    (search needs)
-    (search needs)
-    (search needs)
-    (search needs)
-    returns)
+    (tie.spec (search needs) (search needs) (search needs) (search needs) (search needs) (search needs) (search needs) returns)

@@ -6,32 +6,28 @@ use borrow.Author.Needs.{needs}
 use lib.ListN.{length}
 use Rattle.table.specs.Refusals.{answer, verdict}
 use Rattle.table.proofs.Outcomes.{refused-as, evaluated-as}
+use Rattle.table.proofs.Says.{accepted}
+use Rattle.table.proofs.Verdicts.{gone-through}
+use Rattle.point.proofs.Coordinates.{point-says}
 use Rattle.poly.specs.Values.{baseTests, evalBaseAnswer}
-use Rattle.poly.proofs.ValueOutcomes.{base-verdict, base-tested}
-use Rattle.table.proofs.Answers.{answer-as}
 use Rattle.poly.proofs.value.eval_base.Statement.{statement}
 use Rattle.poly.proofs.value.eval_base.Tie as tie
 
-fits : (known : tie.After-shared-slice-known2) → length (known .before .before .args .table .now) < 2 ^ 64
-fits known = omega arith
-
 module _ (test : tie.After-test-value) where
-  abbrev known : tie.After-shared-slice-known2
-  known = test .before .before .before
-
   abbrev begin : tie.Start
-  begin = known .before .before
+  begin = test .before .before .before .before .before
+
+  fits : length (begin .args .table .now) < 2 ^ 64
+  fits = omega arith
 
   tested : answer (test .test-value .result) ≡ verdict (baseTests (begin .args .table .now) (begin .args .point .now))
-  tested = base-verdict (begin .args .table .now) (begin .args .point .now) (test .test-value .ensures) (test .before .refuse-if .ensures)
-      (test .before .before .splits .ensures)
+  tested = gone-through _ tt (cc)
 
 value-requires : tie.Need-value-requires
 value-requires c κs =
-    let test = c .before .before in
-    let from = begin test in
-    base-tested (from .args .table .now) (from .args .point .now) (fits (known test))
-    (answer-as (c .enum-told .given .1) (tested test))
+    let b = fits (c .before .before) in
+    let h = accepted _ tt (c .enum-told .given .1) (tested (c .before .before)) in
+    search point-says
 
 returns : tie.Need-returns
 unfolding evalBaseAnswer
@@ -46,13 +42,5 @@ returns-2 c =
 pub eval-base-spec : {M : Type 1} → statement M
 eval-base-spec =
     tie.close
-    (tie.spec
-    (search needs)
-    (search needs)
-    (search needs)
-    (λ c. search needs)
-    (λ c. search needs)
-    value-requires
-    (search needs)
-    returns
+    (tie.spec (search needs) (search needs) (search needs) (λ c. search needs) (λ c. search needs) value-requires (search needs) returns
     returns-2)

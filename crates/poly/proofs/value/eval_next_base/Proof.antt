@@ -6,36 +6,28 @@ use borrow.Author.Needs.{needs}
 use lib.ListN.{length}
 use Rattle.table.specs.Refusals.{answer, verdict}
 use Rattle.table.proofs.Outcomes.{refused-as, evaluated-as}
+use Rattle.table.proofs.Says.{accepted}
+use Rattle.table.proofs.Verdicts.{gone-through}
+use Rattle.point.proofs.Coordinates.{point-says}
 use Rattle.poly.specs.Values.{baseTests, evalNextBaseAnswer}
-use Rattle.poly.proofs.ValueOutcomes.{base-verdict, base-tested}
-use Rattle.table.proofs.Answers.{answer-as}
 use Rattle.poly.proofs.value.eval_next_base.Statement.{statement}
 use Rattle.poly.proofs.value.eval_next_base.Tie as tie
 
-fits : (known : tie.After-shared-slice-known2) → length (known .before .before .args .table .now) < 2 ^ 64
-fits known = omega arith
-
 module _ (test : tie.After-test-value) where
-  abbrev known : tie.After-shared-slice-known2
-  known = test .before .before .before
-
   abbrev begin : tie.Start
-  begin = known .before .before
+  begin = test .before .before .before .before .before
+
+  fits : length (begin .args .table .now) < 2 ^ 64
+  fits = omega arith
 
   tested : answer (test .test-value .result) ≡ verdict (baseTests (begin .args .table .now) (begin .args .point .now))
-  tested = base-verdict (begin .args .table .now) (begin .args .point .now) (test .test-value .ensures) (test .before .refuse-if .ensures)
-      (test .before .before .splits .ensures)
+  tested = gone-through _ tt (cc)
 
 next-value-requires : tie.Need-next-value-requires
 next-value-requires c κs =
-    let told = c in
-    let test = told .before .before in
-    let from = begin test in
-    let t =
-    base-tested (from .args .table .now) (from .args .point .now) (fits (known test))
-    (answer-as (told .enum-told .given .1) (tested test))
-    in
-    t
+    let b = fits (c .before .before) in
+    let h = accepted _ tt (c .enum-told .given .1) (tested (c .before .before)) in
+    search point-says
 
 returns : tie.Need-returns
 unfolding evalNextBaseAnswer
@@ -44,21 +36,11 @@ returns c = refused-as _ (c .before .tested .given .1) (tested (c .before .befor
 returns-2 : tie.Need-returns-2
 unfolding evalNextBaseAnswer
 returns-2 c =
-    let sum = c .before in
-    let told = sum .before in
-    evaluated-as _ _ (told .enum-told .given .1) (tested (told .before .before))
-    (sum .next-value .ensures) (c .value .ensures)
+    let told = c .before .before in
+    evaluated-as _ _ (told .enum-told .given .1) (tested (told .before .before)) (c .before .next-value .ensures) (c .value .ensures)
 
 pub eval-next-base-spec : {M : Type 1} → statement M
 eval-next-base-spec =
     tie.close
-    (tie.spec
-    (search needs)
-    (search needs)
-    (search needs)
-    (λ c. search needs)
-    (λ c. search needs)
-    next-value-requires
-    (search needs)
-    returns
-    returns-2)
+    (tie.spec (search needs) (search needs) (search needs) (λ c. search needs) (λ c. search needs) next-value-requires (search needs)
+    returns returns-2)

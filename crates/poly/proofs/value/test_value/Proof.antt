@@ -4,28 +4,9 @@ use Rattle.poly.proofs.value.test_value.Statement.{statement}
 use Rattle.poly.proofs.value.test_value.Tie as tie
 
 returns : tie.Need-returns
-returns c =
-    let below = c .before .before in
-    let lengths = below .before .before in
-    rw (
-      c .refuse-if3 .ensures,
-      c .before .unreduced2 .ensures,
-      below .refuse-if2 .ensures,
-      below .before .unreduced .ensures,
-      lengths .refuse-if .ensures,
-      lengths .before .variables .ensures,
-      lengths .before .before .refuse-entries .ensures,
-    )
+returns c = cc
 
 pub test-value-spec : {M : Type 1} → statement M
 test-value-spec =
     tie.close
-    (tie.spec
-    (search needs)
-    (search needs)
-    (search needs)
-    (search needs)
-    (search needs)
-    (search needs)
-    (search needs)
-    returns)
+    (tie.spec (search needs) (search needs) (search needs) (search needs) (search needs) (search needs) (search needs) returns)

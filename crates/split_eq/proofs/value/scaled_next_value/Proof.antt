@@ -13,12 +13,12 @@ begin c = c .before .before .before .before
 weight-requires : tie.Need-weight-requires
 weight-requires c κs =
     let pre = begin c .pre in
-    (filled _ _ _ _ (pre .1 .1 .holds) (pre .0 .0), omega (arith, some (pre .0 .1), pre .0 .1 .count))
+    (filled _ _ _ _ (pre .1 .holds) (pre .0 .0 .0), omega (arith, some (pre .0 .1), pre .0 .1 .count))
 
 weigh-requires : tie.Need-weigh-requires
 weigh-requires c κs =
     let pre = begin (c .before .before .before .before) .pre in
-    ((pre .0 .0, pre .1 .0), later (pre .0 .1))
+    (pre .0 .0, later (pre .0 .1))
 
 returns : tie.Need-returns
 returns c = corner _ (c .before .before .before .before .before .before .args .n) _ _ (omega arith) (c .from-base .ensures)
@@ -29,7 +29,7 @@ returns-2 c =
     let own = sum .before .before in
     let row = own .before .before in
     let pre = begin (row .before) .pre in
-    next-sum (pre .0 .1) _ _ (pre .1 .1) (omega (arith, row .before .if1 .left)) (row .weight .ensures) (own .mul-base .ensures)
+    next-sum (pre .0 .1) _ _ (pre .1) (omega (arith, row .before .if1 .left)) (row .weight .ensures) (own .mul-base .ensures)
     (sum .weigh .ensures) (c .add .ensures)
 
 pub scaled-next-value-spec : {M : Type 1} → statement M

@@ -15,9 +15,4 @@ returns c =
 pub at-vertex-spec : {M : Type 1} → statement M
 at-vertex-spec =
     tie.close
-    (tie.spec
-    (search needs)
-    (search needs)
-    (λ c. simp length-take (omega arith))
-    (search needs)
-    returns)
+    (tie.spec (search needs) (search needs) (λ c. simp length-take (omega arith)) (search needs) returns)

@@ -28,9 +28,4 @@ returns c =
 pub coordinates-spec : {M : Type 1} → statement M
 coordinates-spec =
     tie.close
-    (tie.spec
-    (search needs)
-    (search needs)
-    (λ c. simp length-take (omega arith))
-    (λ c κs. simp length-take (omega arith))
-    returns)
+    (tie.spec (search needs) (search needs) (λ c. simp length-take (omega arith)) (λ c κs. simp length-take (omega arith)) returns)

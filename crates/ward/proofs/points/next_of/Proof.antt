@@ -9,18 +9,11 @@ use Rattle.ward.proofs.points.next_of.Tie as tie
 
 returns : tie.Need-returns
 returns c =
-    let row = c .before .before .before in
-    c .eval-next .ensures ∙ ap₂ evalNextAnswer (row .before .coordinates .ensures) (row .coordinates2 .ensures)
+    let other = c .before .before .before in
+    c .eval-next .ensures ∙ ap₂ evalNextAnswer (other .before .coordinates .ensures) (other .coordinates2 .ensures)
 
 pub next-of-spec : {M : Type 1} → statement M
 next-of-spec =
     tie.close
-    (tie.spec
-    (search needs)
-    (search needs)
-    (search needs)
-    (λ c. simp length-take (omega arith))
-    (search needs)
-    (λ c. simp length-take (omega arith))
-    (search needs)
-    returns)
+    (tie.spec (search needs) (search needs) (search needs) (λ c. simp length-take (omega arith)) (search needs)
+    (λ c. simp length-take (omega arith)) (search needs) returns)

@@ -7,19 +7,8 @@ use Rattle.ward.proofs.points.test_vertex.Tie as tie
 
 returns : tie.Need-returns
 returns c =
-    let few = c .before in
-    let out = few .before in
-    let whole = out .before in
-    let args = whole .before .before .before .args in
-    gone-through _ tt
-    (rw (
-      c .refuse-if4 .ensures,
-      few .refuse-if3 .ensures,
-      out .refuse-if2 .ensures,
-      whole .refuse-if .ensures,
-      words-length (args .point .now),
-      words-length (args .out .now),
-    ))
+    let args = c .before .before .before .before .before .before .args in
+    gone-through _ tt (cc (words-length (args .point .now), words-length (args .out .now)))
 
 pub test-vertex-spec : {M : Type 1} → statement M
 test-vertex-spec = tie.close (tie.spec (search needs) (search needs) (search needs) (search needs) returns)

@@ -1,8 +1,8 @@
 -- `ward::shifted::compress` meets its contract: by the tests' verdict. Assumes nothing.
 use mathlib.Core.Path.{refl}
 use borrow.Author.Needs.{needs}
-use Rattle.table.proofs.Answers.{answer-as}
-use Rattle.ward.proofs.Folding.{answered}
+use Rattle.table.proofs.Answers.{answer-as, kept}
+use Rattle.ward.specs.Ward.{foldWork, foldOut}
 use Rattle.ward.proofs.shifted.compress.Statement.{statement}
 use Rattle.ward.proofs.shifted.compress.Tie as tie
 
@@ -12,26 +12,18 @@ fold-requires c κs =
     record { accepted = answer-as (told .enum-told .given .1) (told .before .before .test .ensures) }
 
 returns : tie.Need-returns
-returns c = answered _ _ _ _ _ _ (c .before .tested .given .1) (c .before .before .before .test .ensures) refl refl
+unfolding foldWork foldOut
+returns c = rw (← answer-as (c .before .tested .given .1) (c .before .before .before .test .ensures)) (refl, (simp kept, simp kept))
 
 returns-2 : tie.Need-returns-2
+unfolding foldWork foldOut
 returns-2 c =
     let fold = c .before .before .before .before in
     let told = fold .before .before .before in
-    answered _ _ _ _ _ _ (told .enum-told .given .1) (told .before .before .test .ensures) (fold .fold .ensures .0)
-    (fold .fold .ensures .1)
+    rw (← answer-as (told .enum-told .given .1) (told .before .before .test .ensures)) (refl, fold .fold .ensures)
 
 pub compress-spec : {M : Type 1} → statement M
 compress-spec =
     tie.close
-    (tie.spec
-    (search needs)
-    (λ c. search needs)
-    (λ c. search needs)
-    fold-requires
-    (search needs)
-    (search needs)
-    returns
-    (search needs)
-    (search needs)
-    returns-2)
+    (tie.spec (search needs) (λ c. search needs) (λ c. search needs) fold-requires (search needs) (search needs) returns (search needs)
+    (search needs) returns-2)

@@ -59,13 +59,6 @@ returns c =
 pub fill-spec : {M : Type 1} → statement M
 fill-spec =
     tie.close
-    (tie.spec
-    (search needs)
-    fits
-    (λ c. sym (lent (c .before)))
-    fill-requires
-    (λ c. omega (arith, fits (room (c .before)), whole (c .before)))
-    (λ c. sym (count (c .before .before)))
-    (λ c κs. let fill = c .before .before .before in omega (arith, count fill, begin (room fill) .pre .room))
-    (search needs)
-    returns)
+    (tie.spec (search needs) fits (λ c. sym (lent (c .before))) fill-requires
+    (λ c. omega (arith, fits (room (c .before)), whole (c .before))) (λ c. sym (count (c .before .before)))
+    (λ c κs. let fill = c .before .before .before in omega (arith, count fill, begin (room fill) .pre .room)) (search needs) returns)

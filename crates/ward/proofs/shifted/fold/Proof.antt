@@ -36,34 +36,36 @@ fill-requires c κs =
     let zs = c .before .before in
     tables _ _ _ _ _ (passed (variables zs)) _ _ (variables zs .variables .ensures) (zs .coordinates .ensures)
 
-compress-shifted-requires : tie.Need-compress-shifted-requires
-compress-shifted-requires c κs =
-    let zs = c .before .before .before .before .before .before .before in
-    folds _ _ _ _ _ (passed (variables zs)) _ _ (variables zs .variables .ensures) (zs .coordinates .ensures)
-    (omega (arith, begin (variables zs)))
+-- the coordinates that the plan is made of
+module _ (new : tie.After-new) where
+  abbrev fill : tie.After-fill
+  fill = new .before .before .before .before
+
+  abbrev given : tie.After-coordinates
+  given = fill .before .before .before
+
+compress-requires : tie.Need-compress-requires
+compress-requires c κs =
+    let new = c .before in
+    let zs = given new in
+    rw (new .new .ensures)
+    (folds _ _ _ _ _ (passed (variables zs)) _ _ (variables zs .variables .ensures) (zs .coordinates .ensures) _
+    (omega (arith, begin (variables zs))))
 
 returns : tie.Need-returns
 returns c =
     let compress = c .before .before in
-    let fill = compress .before .before .before .before .before in
-    let zs = fill .before .before .before in (
-      filled _ _ _ _ _ (passed (variables zs)) _ _ (variables zs .variables .ensures) (zs .coordinates .ensures) (fill .fill .ensures),
+    let new = compress .before .before in
+    let zs = given new in (
+      filled _ _ _ _ _ (passed (variables zs)) _ _ (variables zs .variables .ensures) (zs .coordinates .ensures) (fill new .fill .ensures),
       folded-as _ _ _ _ _ (passed (variables zs)) _ _ (variables zs .variables .ensures) (zs .coordinates .ensures) _
-          (compress .compress-shifted .ensures),
+          (rw (new .new .ensures) at (compress .compress .ensures)),
     )
 
 pub fold-spec : {M : Type 1} → statement M
 fold-spec =
     tie.close
-    (tie.spec
-    (search needs)
-    (λ c κs. passed c .point-few)
-    (λ c. fits (c .before))
-    (λ c. sym (lent (c .before .before)))
-    fill-requires
-    (λ c. fits (c .before .before .before .before .before))
-    (λ c. sym (lent (c .before .before .before .before .before .before)))
-    compress-shifted-requires
-    (search needs)
-    (search needs)
-    returns)
+    (tie.spec (search needs) (λ c κs. passed c .point-few) (λ c. fits (c .before)) (λ c. sym (lent (c .before .before))) fill-requires
+    (λ c. fits (c .before .before .before .before .before)) (λ c. sym (lent (c .before .before .before .before .before .before)))
+    (λ c κs. let zs = c .before .before .before .before .before .before in omega (arith, lent zs, passed (variables zs) .point-few))
+    compress-requires (search needs) (search needs) returns)

@@ -42,13 +42,5 @@ returns c =
 pub is-unreduced-spec : {M : Type 1} → statement M
 is-unreduced-spec =
     tie.close
-    (tie.spec
-    Inv-loop
-    μ-loop
-    (λ c. (refl, omega arith, refl))
-    (λ c κs. omega arith)
-    (search needs)
-    (search needs)
-    (search needs)
-    loop-again
-    returns)
+    (tie.spec Inv-loop μ-loop (λ c. (refl, omega arith, refl)) (λ c κs. omega arith) (search needs) (search needs) (search needs)
+    loop-again returns)

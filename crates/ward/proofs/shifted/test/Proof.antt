@@ -14,10 +14,4 @@ returns c = refused-by-size _ _ _ _ _ (c .before .tested .given .1) (c .before .
 pub test-spec : {M : Type 1} → statement M
 test-spec =
     tie.close
-    (tie.spec
-    (search needs)
-    (λ c. search needs)
-    (λ c. search needs)
-    test-rest-requires
-    returns
-    (λ c. c .test-rest .ensures))
+    (tie.spec (search needs) (λ c. search needs) (λ c. search needs) test-rest-requires returns (λ c. c .test-rest .ensures))

@@ -3,6 +3,7 @@ use Prim.Native.Nat.{_/_, _≤_}
 use native.Mathlib.Omega.{arith}
 use borrow.Author.Needs.{needs}
 use lib.ListN.{length}
+use Rattle.octets.proofs.Octets.{words-length}
 use Rattle.table.specs.Refusals.{most, variables}
 use Rattle.ward.proofs.Halves.{both-small}
 use Rattle.ward.proofs.FoldOutcomes.{by-others, few}
@@ -45,8 +46,7 @@ returns c =
     let rows = places .before .before in
     let words = rows .before .before in
     let a = begin words .args in
-    by-others (a .table .now) (a .point .now) (a .scale) (a .work .now) (a .out .now) (begin words .pre) _
-    (words .before .variables .ensures)
+    by-others (a .table .now) (a .point .now) (a .scale) (a .work .now) (a .out .now) (begin words .pre)
     (rw (
       c .refuse-if6 .ensures,
       c .before .unreduced .ensures,
@@ -61,27 +61,16 @@ returns c =
       places .before .remaining .ensures,
       rows .rows2 .ensures,
       rows .before .rows .ensures,
+      words-length (a .table .now),
+      words-length (a .point .now),
+      words-length (a .work .now),
+      words-length (a .out .now),
+      ← words .before .variables .ensures,
     ))
 
 pub test-rest-spec : {M : Type 1} → statement M
 test-rest-spec =
     tie.close
-    (tie.spec
-    (search needs)
-    rows-requires
-    (search needs)
-    rows-requires-2
-    add-both
-    (search needs)
-    rows-requires-3
-    (search needs)
-    (search needs)
-    (search needs)
-    (search needs)
-    (search needs)
-    (search needs)
-    (search needs)
-    (λ c. search needs)
-    (search needs)
-    (search needs)
-    returns)
+    (tie.spec (search needs) rows-requires (search needs) rows-requires-2 add-both (search needs) rows-requires-3 (search needs)
+    (search needs) (search needs) (search needs) (search needs) (search needs) (search needs) (λ c. search needs) (search needs)
+    (search needs) returns)

@@ -1,0 +1,4 @@
+mod Summing
+mod FewWords
+mod Settling
+mod Pairing

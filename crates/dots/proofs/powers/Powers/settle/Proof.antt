@@ -1,0 +1,22 @@
+-- `dots::powers::Powers::settle` meets its contract. Assumes nothing.
+use borrow.Author.Needs.{needs}
+use Rattle.dots.specs.Inner.{settledPowers}
+use Rattle.dots.proofs.powers.Powers.settle.Statement.{statement}
+use Rattle.dots.proofs.powers.Powers.settle.Tie as tie
+
+returns : tie.Need-returns
+unfolding settledPowers
+returns c =
+    let third = c .before in
+    let second = third .before in
+    rw (c .settle .ensures, third .fold3 .ensures, second .fold2 .ensures, second .before .fold .ensures)
+
+pub settle-spec : {M : Type 1} → statement M
+settle-spec =
+    tie.close
+    (tie.spec
+    (λ c κs. search needs)
+    (λ c κs. search needs)
+    (λ c κs. search needs)
+    (λ c κs. search needs)
+    returns)

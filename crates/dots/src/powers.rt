@@ -1,0 +1,73 @@
+// A sum of products of elements before it is divided: its coefficients at 1, X, .. X^6, as `field::product` has those of a product.
+use crate::halves::Halves;
+use field::Element;
+use field::product;
+use field::word;
+ghost use mathlib.Core.Path.{_≡_};
+ghost use Rattle.field.specs.Field.{Reduced};
+ghost use Rattle.dots.specs.Inner.{value, Within, mostGains, Each, RoomEach, Raised, foldedHalves, settledPowers};
+
+pub struct Powers {
+    pub s0: Halves,
+    pub s1: Halves,
+    pub s2: Halves,
+    pub s3: Halves,
+    pub s4: Halves,
+    pub s5: Halves,
+    pub s6: Halves,
+}
+
+impl Powers {
+    pub fn none() -> Self
+        ensures { λ r. ⌜ Each (λ k h. (value h ≡ 0) × Within 0 h) r ⌝ }
+    {
+        Powers {
+            s0: Halves::none(),
+            s1: Halves::none(),
+            s2: Halves::none(),
+            s3: Halves::none(),
+            s4: Halves::none(),
+            s5: Halves::none(),
+            s6: Halves::none(),
+        }
+    }
+
+    // The sum with x y.
+    pub fn gain(self, x: Element, y: Element) -> Self
+        requires { ⌜ RoomEach self × Reduced x × Reduced y ⌝ }
+        ensures { λ r. ⌜ Raised self x y r ⌝ }
+    {
+        Powers {
+            s0: self.s0.gain(product::coefficient_0(x, y)),
+            s1: self.s1.gain(product::coefficient_1(x, y)),
+            s2: self.s2.gain(product::coefficient_2(x, y)),
+            s3: self.s3.gain(product::coefficient_3(x, y)),
+            s4: self.s4.gain(product::coefficient_4(x, y)),
+            s5: self.s5.gain(product::coefficient_5(x, y)),
+            s6: self.s6.gain(product::coefficient_6(x, y)),
+        }
+    }
+
+    // The element: what stands at X^4, X^5 and X^6 comes back at 1, X and X^2, times the factor.
+    pub fn settle(self) -> Element
+        requires { ⌜ RoomEach self ⌝ }
+        ensures { λ r. ⌜ r ≡ settledPowers self ⌝ }
+    {
+        Element {
+            c: [
+                fold(self.s0, self.s4),
+                fold(self.s1, self.s5),
+                fold(self.s2, self.s6),
+                self.s3.settle(),
+            ],
+        }
+    }
+}
+
+// The residue of low + factor high.
+fn fold(low: Halves, high: Halves) -> u32
+    requires { ⌜ Within mostGains low × Within mostGains high ⌝ }
+    ensures { λ r. ⌜ r ≡ foldedHalves low high ⌝ }
+{
+    word::residue((low.settle() as u64) + (Element::FACTOR as u64) * (high.settle() as u64))
+}
