@@ -22,9 +22,12 @@ need() {
     fi
 }
 
-# Fails where there is no archive of the operations on words.
+# Fails where an archive of the operations on words is missing.
 need_host() {
-    need "${HOST_LIB_DIR:-$root/target/staticlib}/libhost.a" "rt staticlib host"
+    local name
+    for name in host host_values; do
+        need "${HOST_LIB_DIR:-$root/target/staticlib}/lib$name.a" "rt staticlib $name"
+    done
 }
 
 # Fails where there is no archive of the ward's calls.

@@ -1,4 +1,4 @@
--- Block after block, from the section's first word to its last: how that starts, steps and ends. Assumes nothing.
+-- Portion after block, from the section's first word to its last: how that starts, steps and ends. Assumes nothing.
 use mathlib.Core.Path.{_≡_, sym, ap, _∙_}
 use Prim.Native.Nat.{ℕ, _+_, _-_, _*_, _%_, _^_, _≤_, _<_, min}
 use native.Mathlib.Nat.{zero-mod, mod-self, mod-add-mod, mul-mod-right, mul-mod-left, zero-add}
@@ -16,7 +16,7 @@ use Rattle.plan.specs.Plan.{places, capacity}
 use Rattle.plan.proofs.Joining.{none}
 use Rattle.plan.proofs.Sections.{all-words}
 use Rattle.byte_fold.specs.declared.Section.{Section}
-use Rattle.byte_fold.specs.Inner.{Cut, Block, mostBlock, firstRow, firstWords, sumsTo}
+use Rattle.byte_fold.specs.Inner.{Cut, Portion, mostBlock, firstRow, firstWords, sumsTo}
 
 -- what follows whole rows
 rest-of : (m a c : ℕ) → a % m ≡ 0 → (a + c) % m ≡ c % m
@@ -77,7 +77,7 @@ module _ {s : Section} {table : List ℕ} (d : Cut s table) where
             let l : at + count ≡ end = omega (arith, c) in
             sym (rest-of H at count (a .whole e .0)) ∙ (rw (l, q, all-words (s .plan) (d .sound .fits)) (mul-mod-left _ H))
 
-    pub block : Block (s .plan) at count
+    pub block : Portion (s .plan) at count
     block =
         record {
           within = rw (sym q) count-within;

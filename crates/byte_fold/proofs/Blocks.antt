@@ -13,10 +13,10 @@ use Rattle.plan.specs.Plan.{places, foldOf, gainedBy}
 use Rattle.plan.specs.Sound.{Takes}
 use Rattle.plan.proofs.Joining.{joined}
 use Rattle.byte_fold.specs.declared.Section.{Section}
-use Rattle.byte_fold.specs.Inner.{Cut, Block, firstWords, sectionAt, blockAt, sumsTo}
+use Rattle.byte_fold.specs.Inner.{Cut, Portion, firstWords, sectionAt, blockAt, sumsTo}
 use Rattle.byte_fold.proofs.Words.{first-length, first-below, first-append}
 
-module _ {s : Section} {table : List ℕ} {at count : ℕ} (d : Cut s table) (b : Block (s .plan) at count) {block sums : List ℕ}
+module _ {s : Section} {table : List ℕ} {at count : ℕ} (d : Cut s table) (b : Portion (s .plan) at count) {block sums : List ℕ}
     (e : block ≡ blockAt s (words table) at count) (q : sums ≡ sumsTo s (words table) at) where
   pub takes : Takes (s .plan) at block sums
   takes =

@@ -13,10 +13,10 @@ use Rattle.plan.specs.Plan.{rows, places, capacity}
 use Rattle.plan.specs.Section.{originOf}
 use Rattle.plan.proofs.Sections.{all-words}
 use Rattle.byte_fold.specs.declared.Section.{Section}
-use Rattle.byte_fold.specs.Inner.{Cut, Block, Strided, sectionAt, blockAt, firstWords, rowWord}
+use Rattle.byte_fold.specs.Inner.{Cut, Portion, Strided, sectionAt, blockAt, firstWords, rowWord}
 use Rattle.byte_fold.proofs.Words.{first-ext, first-part}
 
-module _ {s : Section} {table : List ℕ} {at count : ℕ} (d : Cut s table) (b : Block (s .plan) at count) where
+module _ {s : Section} {table : List ℕ} {at count : ℕ} (d : Cut s table) (b : Portion (s .plan) at count) where
   abbrev R : ℕ
   R = rows (s .plan)
 

@@ -59,7 +59,7 @@ abbrev pub sumsTo : Section → List ℕ → ℕ → List ℕ
 sumsTo s ws n = foldOf (s .plan) (firstWords n (sectionAt s ws))
 
 -- a block of a section's words, from word `at` on; on the prefix side whole rows
-pub record Block (plan : Plan) (at count : ℕ) : Type 0 where
+pub record Portion (plan : Plan) (at count : ℕ) : Type 0 where
   pub within : at + count ≤ capacity plan
   pub most-words : count ≤ mostBlock
   pub whole : plan .side ≡ Prefix → (at % places plan ≡ 0) × (count % places plan ≡ 0)

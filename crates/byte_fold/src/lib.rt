@@ -11,7 +11,7 @@ ghost use lib.ListN.{length, replicate};
 ghost use Rattle.octets.specs.Octets.{words, octets};
 ghost use Rattle.plan.specs.Plan.{places, capacity, foldOf};
 ghost use Rattle.plan.specs.Sound.{Sound};
-ghost use Rattle.byte_fold.specs.Inner.{mostBlock, FillsBytes, cutOf, Cut, blockAt, sumsTo, Block, firstRow, firstWords, Strided, rowWord};
+ghost use Rattle.byte_fold.specs.Inner.{mostBlock, FillsBytes, cutOf, Cut, blockAt, sumsTo, Portion, firstRow, firstWords, Strided, rowWord};
 
 // The most places whose sums are held at a time, as variables.
 const HELD: usize = 10;
@@ -107,7 +107,7 @@ fn first_row(side: Side, places: usize) -> usize
 
 // The sums gain a block.
 fn add_block(section: Section, table: &[u8], at: usize, count: usize, sums: &mut [u32])
-    requires { ⌜ Cut section (now table) × Block (section .plan) at count ⌝ }
+    requires { ⌜ Cut section (now table) × Portion (section .plan) at count ⌝ }
     requires { ⌜ now sums ≡ sumsTo section (words (now table)) at ⌝ }
     ensures { λ _. ⌜ now (sums .exit) ≡ sumsTo section (words (now (table .entry))) (at + count) ⌝ }
 {
@@ -119,7 +119,7 @@ fn add_block(section: Section, table: &[u8], at: usize, count: usize, sums: &mut
 
 // Fills block with the section's words from word `at` on.
 fn gather(section: Section, table: &[u8], at: usize, block: &mut [u32])
-    requires { ⌜ Cut section (now table) × Block (section .plan) at (length (now block)) ⌝ }
+    requires { ⌜ Cut section (now table) × Portion (section .plan) at (length (now block)) ⌝ }
     ensures { λ _. ⌜ now (block .exit) ≡ blockAt section (words (now (table .entry))) at (length (now (block .entry))) ⌝ }
 {
     let plan = section.plan;

@@ -55,9 +55,9 @@ impl Powers {
     {
         Element {
             c: [
-                fold(self.s0, self.s4),
-                fold(self.s1, self.s5),
-                fold(self.s2, self.s6),
+                with_high(self.s0, self.s4),
+                with_high(self.s1, self.s5),
+                with_high(self.s2, self.s6),
                 self.s3.settle(),
             ],
         }
@@ -65,7 +65,7 @@ impl Powers {
 }
 
 // The residue of low + factor high.
-fn fold(low: Halves, high: Halves) -> u32
+fn with_high(low: Halves, high: Halves) -> u32
     requires { ⌜ Within mostGains low × Within mostGains high ⌝ }
     ensures { λ r. ⌜ r ≡ foldedHalves low high ⌝ }
 {

@@ -17,7 +17,7 @@ use Rattle.table.proofs.Laws.{elements-length}
 use Rattle.table.specs.Gained.{Gained}
 use Rattle.table.proofs.Parts.{elements-cut}
 use Rattle.table.proofs.Gaining.{none, blocks}
-use Rattle.eq_batch.specs.Inner.{Room, scaledAt}
+use Rattle.eq_batch.specs.Inner.{Elements, scaledAt}
 use Rattle.eq_batch.proofs.Rooms.{room-beyond}
 
 -- n coordinates cut before the last low: the rows of a block, and the number of blocks
@@ -57,7 +57,7 @@ module _ (point : List ℕ) (n : ℕ) (scale : Element) where
         ap₂ (λ zs m. eqAt field zs (h * m + y)) (sym parts) (cut .rows-are ∙ sym l) ∙ eq-split field-ring us vs h y (rw l b)
 
     module _ (h : ℕ) (ws w : List ℕ) (d : Gained 0 (h * rows) (scaledAt scale point 0 n) ws w) (b : h < end) where
-      pub room : Room 0 (2 ^ n) ws → Room (h * rows) (2 ^ low) w
+      pub room : Elements 0 (2 ^ n) ws → Elements (h * rows) (2 ^ low) w
       room r = room-beyond (h * rows) (2 ^ low) (2 ^ n) r d (omega (arith, edge cut h b, cut .rows-are))
 
       pub turn : (a seed : Element) {w′ : List ℕ} → Holds a (eqAt field us h) → Holds seed (field .mul (fromWords scale) (fromWords a))

@@ -10,10 +10,10 @@ use Rattle.table.specs.Gained.{Gained}
 use Rattle.table.proofs.Gaining.{gained-as}
 use Rattle.table.proofs.Tests.{reduced-at}
 use Rattle.weigh.specs.Weigh.{Block}
-use Rattle.eq_batch.specs.Inner.{Room, scaledAt}
+use Rattle.eq_batch.specs.Inner.{Elements, scaledAt}
 
 module _ {point block : List ℕ} {high low rows : ℕ} (seed : Element) (b : Block high low point (fromWords seed) block) (e : rows ≡ 2 ^ low) where
-  pub filled : Room 0 rows block
+  pub filled : Elements 0 rows block
   filled = record { fits = omega (arith, e, b .room); reduced = λ y h. reduced-at block (b .below) (0 + y) }
 
   pub block-gained : {from : ℕ} {ws w : List ℕ} → Gained from rows (elementAt block) ws w

@@ -12,10 +12,10 @@ use Rattle.multilinear.specs.Equality.{eqAt}
 use Rattle.multilinear.specs.Beside.{evalBatch}
 use Rattle.table.specs.Gained.{Gained}
 use Rattle.table.proofs.Gaining.{nothing, added}
-use Rattle.eq_batch.specs.Inner.{Room}
+use Rattle.eq_batch.specs.Inner.{Elements}
 
 module _ (scalar : ℕ → Ext) (point : ℕ → List Ext) (n : ℕ) where
-  pub start : (ws : List ℕ) → Room 0 n ws → Gained 0 n (evalBatch field 0 scalar point) ws ws
+  pub start : (ws : List ℕ) → Elements 0 n ws → Gained 0 n (evalBatch field 0 scalar point) ws ws
   unfolding evalBatch sumTo
   start ws r = nothing 0 n ws (r .reduced)
 

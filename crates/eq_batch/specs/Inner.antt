@@ -14,7 +14,7 @@ use Rattle.table.specs.Refusals.{most}
 use Rattle.eq_batch.specs.Batch.{mostPoints, column}
 
 -- n elements from place `from` on stand in out, each reduced
-pub record Room (from n : ℕ) (ws : List ℕ) : Type 0 where
+pub record Elements (from n : ℕ) (ws : List ℕ) : Type 0 where
   pub fits : 4 * (from + n) ≤ length ws
   pub reduced : (y : ℕ) → y < n → Reduced (getAt ws (from + y))
 

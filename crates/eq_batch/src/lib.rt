@@ -20,7 +20,7 @@ ghost use Rattle.table.specs.Gained.{Gained};
 ghost use Rattle.point.specs.Coordinates.{Coordinates};
 ghost use Rattle.weigh.specs.Weigh.{blockVariables};
 ghost use Rattle.eq_batch.specs.Batch.{batchTests, batchAnswer, batchAt, setOut, addOut};
-ghost use Rattle.eq_batch.specs.Inner.{Room, Points, Column, Gathered, scaledAt};
+ghost use Rattle.eq_batch.specs.Inner.{Elements, Points, Column, Gathered, scaledAt};
 
 // The most points of a batch.
 pub const MOST_POINTS: usize = 64;
@@ -100,7 +100,7 @@ fn both(a: bool, b: bool) -> bool
 
 // out gains the sum over the points.
 fn add_points(n: usize, points: &[u32], scalars: &[u32], out: &mut [u32])
-    requires { ⌜ Points n (now points) (now scalars) × Room 0 (2 ^ n) (now out) ⌝ }
+    requires { ⌜ Points n (now points) (now scalars) × Elements 0 (2 ^ n) (now out) ⌝ }
     ensures { λ _. ⌜ Gained 0 (2 ^ n) (batchAt n (now (points .entry)) (now (scalars .entry)))
         (now (out .entry)) (now (out .exit)) ⌝ }
 {
@@ -123,7 +123,7 @@ fn gather(points: &[u32], n: usize, w: usize, j: usize) -> [u32; 80]
     point
 }
 
-// Room for 20 coordinates.
+// Elements for 20 coordinates.
 fn room() -> [u32; 80]
     ensures { λ r. ⌜ r ≡ replicate 80 0 ⌝ }
 {
@@ -132,7 +132,7 @@ fn room() -> [u32; 80]
 
 // out gains scale eq of the point of n coordinates, block by block: a block for each row of the first coordinates.
 fn add_point(point: &[u32], n: usize, scale: Element, out: &mut [u32])
-    requires { ⌜ (Coordinates n (now point) × Reduced scale) × Room 0 (2 ^ n) (now out) ⌝ }
+    requires { ⌜ (Coordinates n (now point) × Reduced scale) × Elements 0 (2 ^ n) (now out) ⌝ }
     ensures { λ _. ⌜ Gained 0 (2 ^ n) (scaledAt scale (now (point .entry)) 0 n) (now (out .entry)) (now (out .exit)) ⌝ }
 {
     let low = table::min(n, BLOCK);
@@ -146,7 +146,8 @@ fn add_point(point: &[u32], n: usize, scale: Element, out: &mut [u32])
 
 // out gains, from place `from` on, seed eq of the low coordinates that follow the high ones.
 fn add_block(point: &[u32], high: usize, low: usize, seed: Element, from: usize, out: &mut [u32])
-    requires { ⌜ (Coordinates (high + low) (now point) × Reduced seed) × ((low ≤ blockVariables) × Room from (2 ^ low) (now out)) ⌝ }
+    requires { ⌜ (Coordinates (high + low) (now point) × Reduced seed)
+        × ((low ≤ blockVariables) × Elements from (2 ^ low) (now out)) ⌝ }
     ensures { λ _. ⌜ Gained from (2 ^ low) (scaledAt seed (now (point .entry)) high low) (now (out .entry)) (now (out .exit)) ⌝ }
 {
     let rows = table::rows(low);
@@ -156,7 +157,7 @@ fn add_block(point: &[u32], high: usize, low: usize, seed: Element, from: usize,
 
 // out gains the first n elements of summands, from place `from` on.
 fn add_table(summands: &[u32], n: usize, from: usize, out: &mut [u32])
-    requires { ⌜ Room 0 n (now summands) × Room from n (now out) ⌝ }
+    requires { ⌜ Elements 0 n (now summands) × Elements from n (now out) ⌝ }
     ensures { λ _. ⌜ Gained from n (elementAt (now (summands .entry))) (now (out .entry)) (now (out .exit)) ⌝ }
 {
     for i in 0..n {

@@ -142,7 +142,8 @@ fn answer(unreduced: bool, n: usize) -> Remaining
 fn sum_halves(entries: &mut [u32], h: usize) -> bool
     requires { ⌜ TwoHalves h (now entries) ⌝ }
     ensures { λ x. ⌜ x ≡ unreduced p (now (entries .entry)) ⌝ }
-    ensures { λ _. ⌜ now (entries .exit) ≡ cond (unreduced p (now (entries .entry))) (now (entries .entry)) (halved Sum h (now (entries .entry)) (field .zero)) ⌝ }
+    ensures { λ _. ⌜ now (entries .exit)
+        ≡ cond (unreduced p (now (entries .entry))) (now (entries .entry)) (halved Sum h (now (entries .entry)) (field .zero)) ⌝ }
 {
     let mut at = 0;
     while at < h {

@@ -1,25 +1,11 @@
--- What the program keeps between lines. Assumes nothing.
+-- What the program keeps between its reads. Assumes nothing.
 use mathlib.Core.Path.{_≡_}
-use mathlib.Core.Bool.{false}
-use Prim.Native.Nat.{ℕ, _-_, _*_, _^_, _≤_}
+use mathlib.Core.Bool.{true}
+use Prim.Native.Nat.{ℕ}
 use mathlib.Core.List.{List}
-use lib.ListN.{length}
-use Rattle.frames.specs.declared.Reader.{Reader}
-use Rattle.frames.specs.Reader.{mostPlaces, Ready}
-use Rattle.frames.specs.Inner.{mostLine}
+use Rattle.program.specs.Blocks.{Going}
 use Rattle.foldframes.specs.declared.Progress.{Progress}
 
-pub record Going (at : Progress) (line out : List ℕ) : Type 0 where
-  pub ready : Ready (at .reader) out
-  pub held : at .used ≤ mostLine
-  pub room : length line ≡ mostLine
-
--- the same, and the program goes no further
-abbrev pub stopped : Progress → Progress
-stopped at = record { go = false; reader = at .reader; used = at .used }
-
--- out has an element for each of the session's places
-pub record Within (r : Reader) (out : List ℕ) : Type 0 where
-  pub small : r .session .plan .n - r .session .plan .k ≤ mostPlaces
-  pub fits : r .session .plan .k ≤ r .session .plan .n
-  pub room : length out ≡ 4 * 2 ^ mostPlaces
+-- a program that goes on can be fed again
+pub record Kept (t : Progress) (line out text : List ℕ) : Type 0 where
+  pub goes : t .going ≡ true → Going (t .program) line out text

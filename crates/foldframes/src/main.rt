@@ -1,156 +1,133 @@
 // Reads frames from standard input, a line each, and prints the out lines at `04`, or the line of the first refusal.
 //
-// Everything that decides what is printed is in `frames`: this program reads, steps and prints.
-use frames::Reader;
+// What is printed `program` decides: here the input is read, handed over block by block, and the text of each block written. A read
+// or a write that fails ends the program, with a line on standard error and nothing more on standard output.
 use libc::STDIN_FILENO;
 use libc::STDOUT_FILENO;
-use table::Refusal;
-use table::Verdict;
+use program::Program;
 ghost use mathlib.Core.Path.{_≡_};
-ghost use Prim.Native.Nat.{_*_, _≤_};
+ghost use mathlib.Core.Bool.{false};
 ghost use lib.ListN.{length, replicate};
-ghost use Rattle.frames.specs.Inner.{mostLine};
-ghost use Rattle.foldframes.specs.Progress.{Going, stopped, Within};
+ghost use Rattle.frame.specs.Frame.{mostLine};
+ghost use Rattle.program.specs.Blocks.{mostText, Going};
+ghost use Rattle.foldframes.specs.Progress.{Kept};
 
-// Whether the program goes on, its state, and how many bytes of a line it holds.
+// The program's state, and whether it goes on.
 struct Progress {
-    go: bool,
-    reader: Reader,
-    used: usize,
+    going: bool,
+    program: Program,
 }
 
 fn main() {
-    let mut out = out_room();
+    let mut block = io::large_buffer();
     let mut line = line_room();
+    let mut out = out_room();
+    let mut text = text_room();
     let mut at = Progress {
-        go: true,
-        reader: frames::start(),
-        used: 0,
+        going: true,
+        program: program::start(),
     };
     let mut turns = u64::MAX;
-    while turns > 0 && at.go {
-        at = turn(at, &mut line, &mut out);
+    while turns > 0 && at.going {
+        let program = at.program;
+        at = turn(program, &mut block, &mut line, &mut out, &mut text);
         turns -= 1;
     }
 }
 
-// Reads once, and handles what came. The end of the input is the last turn.
-fn turn(at: Progress, line: &mut [u8], out: &mut [u32]) -> Progress
-    requires { ⌜ Going at (now line) (now out) ⌝ }
-    ensures { λ r. ⌜ Going r (now (line .exit)) (now (out .exit)) ⌝ }
+// Reads once, and hands on what came.
+fn turn(
+    program: Program,
+    block: &mut [u8],
+    line: &mut [u8],
+    out: &mut [u32],
+    text: &mut [u8],
+) -> Progress
+    requires { ⌜ Going program (now line) (now out) (now text) ⌝ }
+    ensures { λ r. ⌜ Kept r (now (line .exit)) (now (out .exit)) (now (text .exit)) ⌝ }
 {
-    let mut buffer = io::large_buffer();
-    let got = libc::read(STDIN_FILENO, &mut buffer);
-    if got <= 0 {
-        return end(at, line, out);
+    let got = libc::read(STDIN_FILENO, block);
+    if got < 0 {
+        let going = is_passing(b"foldframes: standard input");
+        return Progress { going, program };
     }
-    let count = io::count(got, &buffer);
-    lines(at, &buffer[..count], line, out)
+    if got == 0 {
+        return end(program, line, out, text);
+    }
+    let count = io::count(got, block);
+    feed(program, &block[..count], line, out, text)
 }
 
-// The lines that end in bytes, each printed before the next; what is left is held.
-fn lines(at: Progress, bytes: &[u8], line: &mut [u8], out: &mut [u32]) -> Progress
-    requires { ⌜ Going at (now line) (now out) ⌝ }
-    ensures { λ r. ⌜ Going r (now (line .exit)) (now (out .exit)) ⌝ }
+// A block of input. A refused line is the last, and so is a text that cannot be written.
+fn feed(
+    program: Program,
+    block: &[u8],
+    line: &mut [u8],
+    out: &mut [u32],
+    text: &mut [u8],
+) -> Progress
+    requires { ⌜ Going program (now line) (now out) (now text) ⌝ }
+    ensures { λ r. ⌜ Kept r (now (line .exit)) (now (out .exit)) (now (text .exit)) ⌝ }
 {
-    let mut next = at;
-    let mut start = 0;
-    while start < bytes.len() {
-        let stop = start + frames::text::line_length(bytes, start);
-        next.used = frames::text::hold(line, next.used, &bytes[start..stop]);
-        if stop == bytes.len() {
-            return next;
-        }
-        next = one_line(next, line, out);
-        if !next.go {
-            return next;
-        }
-        start = stop + 1;
-    }
-    next
-}
-
-// The line that is held.
-fn one_line(at: Progress, line: &[u8], out: &mut [u32]) -> Progress
-    requires { ⌜ Going at (now line) (now out) ⌝ }
-    ensures { λ r. ⌜ Going r (now (line .entry)) (now (out .exit)) ⌝ }
-{
-    let reader = at.reader;
-    let used = at.used;
-    let turn = frames::step(reader, &line[..used], out);
-    let answer = turn.answer;
-    let next = turn.reader;
-    let go = print(answer, next, out);
+    let fed = program::feed(program, block, line, out, text);
+    let count = fed.count;
+    let written = write(&text[..count]);
+    let next = fed.program;
     Progress {
-        go,
-        reader: next,
-        used: 0,
+        going: written && !next.stopped,
+        program: next,
     }
 }
 
-// The input has ended: the last line may lack its line feed.
-fn end(at: Progress, line: &[u8], out: &mut [u32]) -> Progress
-    requires { ⌜ Going at (now line) (now out) ⌝ }
-    ensures { λ r. ⌜ Going r (now (line .entry)) (now (out .exit)) ⌝ }
+// The end of the input.
+fn end(program: Program, line: &[u8], out: &mut [u32], text: &mut [u8]) -> Progress
+    requires { ⌜ Going program (now line) (now out) (now text) ⌝ }
+    ensures { λ r. ⌜ r .going ≡ false ⌝ }
 {
-    if at.used == 0 {
-        return stop(at);
-    }
-    stop(one_line(at, line, out))
-}
-
-// The program goes no further. Without `04` there are words missing.
-fn stop(at: Progress) -> Progress
-    ensures { λ r. ⌜ r ≡ stopped at ⌝ }
-{
-    let reader = at.reader;
-    let phase = reader.phase;
-    if at.go && !frames::is_done(phase) {
-        print_refusal(Refusal::Missing);
-    }
+    let count = program::end(program, line, out, text);
+    write(&text[..count]);
     Progress {
-        go: false,
-        reader,
-        used: at.used,
+        going: false,
+        program,
     }
 }
 
-// What a line's answer prints, and whether to go on.
-fn print(answer: Verdict, reader: Reader, out: &[u32]) -> bool
-    requires { ⌜ Within reader (now out) ⌝ }
-{
-    match answer {
-        Verdict::Refused(refusal) => {
-            print_refusal(refusal);
-            false
+// Writes all of text to standard output, and answers whether all was written. A write that takes nothing is one that failed.
+fn write(text: &[u8]) -> bool {
+    let mut done = 0;
+    let mut tries = u64::MAX;
+    while tries > 0 && done < text.len() {
+        let put = libc::write(STDOUT_FILENO, &text[done..]);
+        if put == 0 {
+            return false;
         }
-        Verdict::Accepted => {
-            let phase = reader.phase;
-            if frames::is_done(phase) {
-                print_out(
-                    out,
-                    table::rows(reader.session.plan.n - reader.session.plan.k),
-                );
-            }
-            true
+        if put < 0 && !is_passing(b"foldframes: standard output") {
+            return false;
         }
+        done += io::count(put, &text[done..]);
+        tries -= 1;
     }
+    done == text.len()
 }
 
-fn print_out(out: &[u32], places: usize)
-    requires { ⌜ 4 * places ≤ length (now out) ⌝ }
+// Whether a call that failed may be made again: it was interrupted, or would have had to wait. Another failure is told on standard error.
+fn is_passing(what: &[u8]) -> bool {
+    let error = os::errno();
+    if error == libc::EINTR {
+        return true;
+    }
+    if error == libc::EAGAIN {
+        libc::sched_yield();
+        return true;
+    }
+    os::fail(what);
+    false
+}
+
+fn line_room() -> [u8; frame::MOST_LINE]
+    ensures { λ r. ⌜ length r ≡ mostLine ⌝ }
 {
-    let mut text = [0u8; 33];
-    for i in 0..places {
-        frames::text::put_element(out, i, &mut text);
-        io::write_all(STDOUT_FILENO, &text);
-    }
-}
-
-fn print_refusal(refusal: Refusal) {
-    let mut text = [0u8; 5];
-    frames::text::put_refusal(refusal, &mut text);
-    io::write_all(STDOUT_FILENO, &text);
+    [0u8; frame::MOST_LINE]
 }
 
 fn out_room() -> [u32; 4096]
@@ -159,8 +136,8 @@ fn out_room() -> [u32; 4096]
     [0u32; 4096]
 }
 
-fn line_room() -> [u8; frames::text::MOST_LINE]
-    ensures { λ r. ⌜ r ≡ replicate mostLine 0 ⌝ }
+fn text_room() -> [u8; program::MOST_TEXT]
+    ensures { λ r. ⌜ length r ≡ mostText ⌝ }
 {
-    [0u8; frames::text::MOST_LINE]
+    [0u8; program::MOST_TEXT]
 }

@@ -4,7 +4,7 @@ use mathlib.Core.Bool.{Bool, true, false, _&&_, _||_}
 use Prim.Native.Nat.{ℕ, _+_, _-_, _≤_, _<_}
 use native.Mathlib.Omega.{arith}
 use lib.Dec.{leb, ltb}
-use borrow.Author.Tests.{leb-true, leb-false, ltb-true, ltb-false, le-leb, lt-leb}
+use borrow.Author.Tests.{leb-true, ltb-true, ltb-false, le-leb, lt-leb}
 use Rattle.frame.specs.Hex.{isDigit, digitOf, glyph}
 
 -- a test that holds with another holds
@@ -27,14 +27,6 @@ letter-range c h d =
     let l : 48 ≤ c = omega arith in
     let m : 57 < c = omega arith in
     leb-true c 102 (rw (le-leb 48 c l, lt-leb c 57 m, le-leb 97 c h) at d)
-
--- a digit's value is below 16
-pub digit-small : (c : ℕ) → isDigit c ≡ true → digitOf c < 16
-digit-small c d = go (leb 97 c) refl
-  where
-    go : (t : Bool) → leb 97 c ≡ t → digitOf c < 16
-    go true e = rw e (omega (arith, letter-range c (leb-true 97 c e) d))
-    go false e = rw e (omega (arith, number-range c (leb-false 97 c e) d))
 
 number-digit : (c : ℕ) → 48 ≤ c → c ≤ 57 → (isDigit c ≡ true) × (digitOf c ≡ c - 48)
 number-digit c l h =

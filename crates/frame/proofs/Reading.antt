@@ -1,41 +1,47 @@
--- The loop that reads words from bytes, at word i: those before i are there. Assumes nothing.
-use mathlib.Core.Path.{_≡_, refl, sym, _∙_}
-use mathlib.Core.Logic.{_≢_}
-use Prim.Native.Nat.{ℕ, _+_, _*_, _≤_, _<_}
+-- The loop that reads the words of an `03`, at word i: those before i are there, and zeros behind them. Assumes nothing.
+use mathlib.Core.Path.{_≡_, ap, _∙_}
+use Prim.Native.Nat.{ℕ, zero, suc, _+_, _-_, _*_, _≤_, _<_}
+use native.Mathlib.Numerals.{add-one}
 use native.Mathlib.Omega.{arith}
-use mathlib.Core.List.{List, [], _∷_}
-use lib.ListN.{length, getD, set, length-set}
-use lib.Seq.{getD-set-same, getD-set-other, ext-getD}
-use borrow.Author.Count.{below-more}
+use mathlib.Core.List.{List, [], _∷_, _++_, append-assoc}
+use lib.ListN.{set, replicate}
+use lib.Seq.{set-at}
 use Rattle.frame.specs.Hex.{wordAt, wordsAt}
-use Rattle.frame.proofs.Grammar.{words-length, at-words}
+use Rattle.frame.specs.Frame.{noWords}
+use Rattle.frame.proofs.Grammar.{words-length}
 
--- the words before i are those from byte b on
-pub record Taken (bs : List ℕ) (b : ℕ) (was ws : List ℕ) (i : ℕ) : Type 0 where
-  pub same : length ws ≡ length was
-  pub done : (k : ℕ) → k < i → getD ws k 0 ≡ wordAt bs (b + 4 * k)
+-- one word more
+more : (n : ℕ) (bs : List ℕ) (b : ℕ) → wordsAt (suc n) bs b ≡ wordsAt n bs b ++ wordAt bs (b + 4 * n) ∷ []
+unfolding wordsAt
+more zero bs b = let e : b ≡ b + 4 * 0 = omega arith in ap (λ (j : ℕ). wordAt bs j ∷ []) e
+more (suc n) bs b =
+    let e : b + 4 + 4 * n ≡ b + 4 * suc n = omega arith in
+    ap (λ (l : List ℕ). wordAt bs b ∷ l) (more n bs (b + 4) ∙ ap (λ (j : ℕ). wordsAt n bs (b + 4) ++ wordAt bs j ∷ []) e)
 
-pub start : (bs : List ℕ) (b : ℕ) (was : List ℕ) → Taken bs b was was 0
-start bs b was = record { same = refl; done = λ k h. omega arith }
+pub record Taken (bs : List ℕ) (count i : ℕ) (ws : List ℕ) : Type 0 where
+  pub within : i ≤ count
+  pub front : ws ≡ wordsAt i bs 2 ++ replicate (16 - i) 0
 
-module _ {bs : List ℕ} {b : ℕ} {was ws : List ℕ} {i : ℕ} (t : Taken bs b was ws i) where
-  pub turn : {w : ℕ} → i < length was → w ≡ wordAt bs (b + 4 * i) → Taken bs b was (set ws i w) (i + 1)
-  turn {w} h e =
-      let here : i < length ws = omega (arith, t .same) in
+pub start : (bs : List ℕ) (count : ℕ) {ws : List ℕ} → ws ≡ noWords → Taken bs count 0 ws
+unfolding wordsAt
+start bs count e = record { within = omega arith; front = e }
+
+module _ {bs : List ℕ} {count i : ℕ} {ws : List ℕ} (t : Taken bs count i ws) where
+  pub turn : {w : ℕ} → i < count → count ≤ 16 → w ≡ wordAt bs (2 + 4 * i) → Taken bs count (i + 1) (set ws i w)
+  turn {w} h few e =
+      let xs : List ℕ = wordsAt i bs 2 in
+      let zeros : List ℕ = replicate (16 - (i + 1)) 0 in
+      let q : 16 - i ≡ suc (16 - (i + 1)) = omega arith in
       record {
-        same = length-set ws i w ∙ t .same;
-        done =
-            below-more _ i
-            (λ k l. let ne : k ≢ i = omega arith in getD-set-other ws i k w 0 ne ∙ t .done k l)
-            (getD-set-same ws i w 0 here ∙ e);
+        within = omega arith;
+        front =
+            ap (λ (l : List ℕ). set l i w) (t .front ∙ ap (λ (n : ℕ). xs ++ replicate n 0) q)
+            ∙ set-at xs 0 zeros w i (words-length i bs 2)
+            ∙ rw (add-one, more i bs 2, append-assoc, e);
       }
 
-  pub end : length was ≤ i → ws ≡ wordsAt (length was) bs b
-  end h =
-      ext-getD 0 ws (wordsAt (length was) bs b) (t .same ∙ sym (words-length (length was) bs b))
-      (λ k l.
-      let m : k < length was = omega (arith, t .same) in
-      t .done k (omega arith) ∙ sym (at-words (length was) bs b k m))
+  pub end : count ≤ i → ws ≡ wordsAt count bs 2 ++ replicate (16 - count) 0
+  end h = let q : i ≡ count = omega (arith, t .within) in rw q at (t .front)
 
 -- four words in a row
 pub four : (bs : List ℕ) (b w₀ w₁ w₂ w₃ : ℕ) → w₀ ≡ wordAt bs b → w₁ ≡ wordAt bs (b + 4) → w₂ ≡ wordAt bs (b + 8) → w₃ ≡ wordAt bs (b + 12)

@@ -6,6 +6,7 @@ use native.Mathlib.Omega.{arith}
 use mathlib.Core.List.{List, [], _∷_, _++_}
 use lib.Dec.{eqb, ltb}
 use lib.ListN.{length, getD}
+use lib.Seq.{take-at}
 use borrow.Author.Tests.{ltb-true, eq-eqb, le-leb}
 use Rattle.multilinear.specs.declared.Side.{Side}
 use Rattle.multilinear.specs.declared.Side.the-variants.{Prefix, Suffix}
@@ -13,8 +14,10 @@ use Rattle.multilinear.specs.declared.Weight.{Weight}
 use Rattle.multilinear.specs.declared.Weight.the-variants.{Plain, Shifted, Next}
 use Rattle.field.specs.declared.Element.{Element}
 use Rattle.frame.specs.Hex.{isHex, spelled, bytesOf, wordsAt, byteDigits, wordDigits}
-use Rattle.frame.specs.Frame.{kindOf, elementOf}
+use Rattle.frame.specs.declared.Kind.the-variants as kind
+use Rattle.frame.specs.Frame.{kindOf, elementOf, frameBy, frameOf}
 use Rattle.frame.specs.Written.{sideByte, weightByte, openLine, coordinateLine, wordsLine, Whole, ReadsOpen, ReadsCoordinate, ReadsWords, Written}
+use Rattle.frame.proofs.Grammar.{words-length}
 use Rattle.frame.proofs.ReadsBack.{byte-hex, byte-spelled, printed-is-hex, printed-spells, octetsOf, octets-length, octets-back, past-words}
 use Rattle.frame.proofs.Scanning.{and-false}
 
@@ -80,70 +83,64 @@ weight-reads Shifted = refl
 weight-reads Next = refl
 
 module _ (side : Side) (weight : Weight) (n k : ℕ) (scale : Element) (h : Whole scale) where
-  open-reads : ReadsOpen (1 ∷ sideByte side ∷ weightByte weight ∷ n ∷ k ∷ octetsOf (scale .c)) side weight n k scale
+  abbrev open-bytes : List ℕ
+  open-bytes = 1 ∷ sideByte side ∷ weightByte weight ∷ n ∷ k ∷ []
+
+  open-kind : kindOf (open-bytes ++ octetsOf (scale .c)) ≡ kind.Open
   unfolding kindOf
-  open-reads =
-      record {
-        kind-back = rw (element-bytes scale h, side-small side, weight-small weight);
+  open-kind = rw (element-bytes scale h, side-small side, weight-small weight)
+
+  open-back : n < 256 → k < 256 → ReadsOpen (frameOf (openLine side weight n k scale)) side weight n k scale
+  unfolding digitsOf Small frameOf frameBy
+  open-back hn hk =
+      let s = ltb-true (sideByte side) 2 (side-small side) in
+      let w = ltb-true (weightByte weight) 3 (weight-small weight) in
+      let small : Small open-bytes = (omega arith, (omega arith, (omega arith, (hn, (hk, tt))))) in
+      rw (line-bytes (scale .c) (h .fit) open-bytes small, open-kind)
+      (record {
+        kind-back = refl;
         side-back = side-reads side;
         weight-back = weight-reads weight;
         n-back = refl;
         k-back = refl;
-        scale-back = element-reads (1 ∷ sideByte side ∷ weightByte weight ∷ n ∷ k ∷ []) scale h;
-      }
-
-  open-back : n < 256 → k < 256 → ReadsOpen (bytesOf (openLine side weight n k scale)) side weight n k scale
-  unfolding digitsOf Small
-  open-back hn hk =
-      let s = ltb-true (sideByte side) 2 (side-small side) in
-      let w = ltb-true (weightByte weight) 3 (weight-small weight) in
-      let small : Small (1 ∷ sideByte side ∷ weightByte weight ∷ n ∷ k ∷ []) =
-      (omega arith, (omega arith, (omega arith, (hn, (hk, tt))))) in
-      rw (line-bytes (scale .c) (h .fit) (1 ∷ sideByte side ∷ weightByte weight ∷ n ∷ k ∷ []) small) open-reads
+        scale-back = element-reads open-bytes scale h;
+      })
 
 module _ (index : ℕ) (coordinate : Element) (h : Whole coordinate) where
-  coordinate-reads : ReadsCoordinate (2 ∷ index ∷ octetsOf (coordinate .c)) index coordinate
+  coordinate-kind : kindOf (2 ∷ index ∷ octetsOf (coordinate .c)) ≡ kind.Coordinate
   unfolding kindOf
-  coordinate-reads =
-      record {
-        kind-back = rw (element-bytes coordinate h);
-        index-back = refl;
-        coordinate-back = element-reads (2 ∷ index ∷ []) coordinate h;
-      }
+  coordinate-kind = rw (element-bytes coordinate h)
 
-  coordinate-back : index < 256 → ReadsCoordinate (bytesOf (coordinateLine index coordinate)) index coordinate
-  unfolding digitsOf Small
+  coordinate-back : index < 256 → ReadsCoordinate (frameOf (coordinateLine index coordinate)) index coordinate
+  unfolding digitsOf Small frameOf frameBy
   coordinate-back hi =
       let small : Small (2 ∷ index ∷ []) = (omega arith, (hi, tt)) in
-      rw (line-bytes (coordinate .c) (h .fit) (2 ∷ index ∷ []) small) coordinate-reads
+      rw (line-bytes (coordinate .c) (h .fit) (2 ∷ index ∷ []) small, coordinate-kind)
+      (record { kind-back = refl; index-back = refl; coordinate-back = element-reads (2 ∷ index ∷ []) coordinate h })
 
 module _ (words : List ℕ) (few : length words ≤ 16) (fit : (i : ℕ) → getD words i 0 < 2 ^ 32) where
-  words-reads : ReadsWords (3 ∷ length words ∷ octetsOf words) words
+  words-kind : kindOf (3 ∷ length words ∷ octetsOf words) ≡ kind.Words
   unfolding kindOf
-  words-reads =
+  words-kind =
       let m : ℕ = suc (suc (length (octetsOf words))) in
       let size : m ≡ 2 + 4 * length words = omega (arith, octets-length words) in
-      let two : 2 ≤ m = omega arith in
-      record {
-        kind-back =
-            rw (
-              and-false (eqb m 21),
-              and-false (eqb m 18),
-              le-leb 2 m two,
-              le-leb (length words) 16 few,
-              eq-eqb m (2 + 4 * length words) size,
-            );
-        words-back = past-words (3 ∷ length words ∷ []) (octetsOf words) (length words) 0 ∙ octets-back words fit;
-      }
+      rw (
+        and-false (eqb m 21),
+        and-false (eqb m 18),
+        eq-eqb m (2 + 4 * length words) size,
+        le-leb (length words) 16 few,
+      )
 
-  words-back : ReadsWords (bytesOf (wordsLine words)) words
-  unfolding digitsOf Small
+  words-back : ReadsWords (frameOf (wordsLine words)) words
+  unfolding digitsOf Small frameOf frameBy
   words-back =
       let small : Small (3 ∷ length words ∷ []) = (omega arith, (omega arith, tt)) in
-      rw (line-bytes words fit (3 ∷ length words ∷ []) small) words-reads
+      let back = past-words (3 ∷ length words ∷ []) (octetsOf words) (length words) 0 ∙ octets-back words fit in
+      rw (line-bytes words fit (3 ∷ length words ∷ []) small, words-kind)
+      (record { kind-back = refl; words-back = take-at _ _ (length words) (words-length (length words) _ 2) ∙ back })
 
 pub written : Written
-unfolding kindOf bytesOf isHex spelled
+unfolding frameOf frameBy kindOf bytesOf isHex spelled
 written = record {
   open-back = λ side weight n k scale hn hk h. open-back side weight n k scale h hn hk;
   coordinate-back = λ index coordinate hi h. coordinate-back index coordinate h hi;

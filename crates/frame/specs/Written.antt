@@ -10,8 +10,9 @@ use Rattle.multilinear.specs.declared.Weight.{Weight}
 use Rattle.multilinear.specs.declared.Weight.the-variants.{Plain, Shifted, Next}
 use Rattle.field.specs.declared.Element.{Element}
 use Rattle.frame.specs.declared.Kind.the-variants as kind
-use Rattle.frame.specs.Hex.{bytesOf, byteDigits, wordDigits}
-use Rattle.frame.specs.Frame.{kindOf, sideOf, weightOf, variablesOf, coordinatesOf, scaleOf, indexOf, coordinateOf, wordsOf}
+use Rattle.frame.specs.declared.Frame.{Frame}
+use Rattle.frame.specs.Hex.{byteDigits, wordDigits}
+use Rattle.frame.specs.Frame.{frameOf, wordsOf}
 
 -- "side (00 prefix, 01 suffix)"
 unfoldable pub sideByte : Side → ℕ
@@ -51,32 +52,32 @@ pub record Whole (e : Element) : Type 0 where
   pub four : length (e .c) ≡ 4
   pub fit : (i : ℕ) → getD (e .c) i 0 < 2 ^ 32
 
--- the bytes of a line read as an `01` of these fields
-pub record ReadsOpen (bs : List ℕ) (side : Side) (weight : Weight) (n k : ℕ) (scale : Element) : Type 0 where
-  pub kind-back : kindOf bs ≡ kind.Open
-  pub side-back : sideOf bs ≡ side
-  pub weight-back : weightOf bs ≡ weight
-  pub n-back : variablesOf bs ≡ n
-  pub k-back : coordinatesOf bs ≡ k
-  pub scale-back : scaleOf bs ≡ scale
+-- a frame is an `01` of these fields
+pub record ReadsOpen (f : Frame) (side : Side) (weight : Weight) (n k : ℕ) (scale : Element) : Type 0 where
+  pub kind-back : f .kind ≡ kind.Open
+  pub side-back : f .side ≡ side
+  pub weight-back : f .weight ≡ weight
+  pub n-back : f .n ≡ n
+  pub k-back : f .k ≡ k
+  pub scale-back : f .element ≡ scale
 
--- and as a `02`
-pub record ReadsCoordinate (bs : List ℕ) (index : ℕ) (coordinate : Element) : Type 0 where
-  pub kind-back : kindOf bs ≡ kind.Coordinate
-  pub index-back : indexOf bs ≡ index
-  pub coordinate-back : coordinateOf bs ≡ coordinate
+-- a `02`
+pub record ReadsCoordinate (f : Frame) (index : ℕ) (coordinate : Element) : Type 0 where
+  pub kind-back : f .kind ≡ kind.Coordinate
+  pub index-back : f .index ≡ index
+  pub coordinate-back : f .element ≡ coordinate
 
--- and as a `03`
-pub record ReadsWords (bs : List ℕ) (words : List ℕ) : Type 0 where
-  pub kind-back : kindOf bs ≡ kind.Words
-  pub words-back : wordsOf bs ≡ words
+-- a `03`
+pub record ReadsWords (f : Frame) (words : List ℕ) : Type 0 where
+  pub kind-back : f .kind ≡ kind.Words
+  pub words-back : wordsOf f ≡ words
 
 -- what is written reads back as what it was
 pub record Written : Type 0 where
   pub open-back : (side : Side) (weight : Weight) (n k : ℕ) (scale : Element) → n < 256 → k < 256 → Whole scale
-      → ReadsOpen (bytesOf (openLine side weight n k scale)) side weight n k scale
+      → ReadsOpen (frameOf (openLine side weight n k scale)) side weight n k scale
   pub coordinate-back : (index : ℕ) (coordinate : Element) → index < 256 → Whole coordinate
-      → ReadsCoordinate (bytesOf (coordinateLine index coordinate)) index coordinate
+      → ReadsCoordinate (frameOf (coordinateLine index coordinate)) index coordinate
   pub words-back : (words : List ℕ) → length words ≤ 16 → ((i : ℕ) → getD words i 0 < 2 ^ 32)
-      → ReadsWords (bytesOf (wordsLine words)) words
-  pub close-back : kindOf (bytesOf closeLine) ≡ kind.Close
+      → ReadsWords (frameOf (wordsLine words)) words
+  pub close-back : frameOf closeLine .kind ≡ kind.Close

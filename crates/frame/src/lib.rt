@@ -9,14 +9,16 @@ use multilinear::Side;
 use multilinear::Weight;
 ghost use mathlib.Core.Path.{_≡_};
 ghost use mathlib.Core.Bool.{true};
-ghost use mathlib.Core.List.{_∷_, []};
-ghost use Prim.Native.Nat.{_+_, _*_, _/_, _≤_, _<_};
-ghost use lib.ListN.{length};
+ghost use mathlib.Core.List.{_∷_, [], _++_};
+ghost use Prim.Native.Nat.{_+_, _-_, _*_, _/_, _≤_, _<_};
+ghost use lib.ListN.{length, take, replicate};
 ghost use lib.Seq.{sets};
 ghost use Rattle.frame.specs.Hex.{isDigit, digitOf, glyph, isHex, spelled, wordAt, wordsAt, byteDigits, wordDigits};
-ghost use Rattle.frame.specs.Frame.{byteAt, elementOf, isOpen, isCoordinate, isWords, isClose, sideOf, weightOf, kindOf};
+ghost use Rattle.frame.specs.declared.Kind.the-variants.{Open, Coordinate, Words};
+ghost use Rattle.frame.specs.Frame.{byteAt, elementOf, starts, isOpen, isWords, sideOf, weightOf, noWords, bare, fieldsOf, frameBy, frameOf};
 ghost use Rattle.frame.specs.Inner.{Spells};
 
+// `01`, `02`, `03`, `04`, or none of them.
 pub enum Kind {
     Open,
     Coordinate,
@@ -25,11 +27,58 @@ pub enum Kind {
     NoFrame,
 }
 
+// What a line says. Fields that its kind does not have are 0, the side prefix and the weight plain.
+pub struct Frame {
+    pub kind: Kind,
+    pub side: Side,
+    pub weight: Weight,
+    pub n: usize,
+    pub k: usize,
+    pub index: usize,
+    // The scale of an `01`, the coordinate of an `02`.
+    pub element: Element,
+    // Of an `03`: how many words, and the words with zeros behind them.
+    pub count: usize,
+    pub words: [u32; MOST_WORDS],
+}
+
+// The most words of an `03`.
+pub const MOST_WORDS: usize = 16;
+
 // The most bytes of a frame: 03, the count, and 16 words.
-pub const MOST_BYTES: usize = 66;
+const MOST_BYTES: usize = 66;
+
+// One more than a frame's digits: of a longer line, so many of its bytes are decoded as the whole (`cut-alike` of proofs/Decoding.antt).
+pub const MOST_LINE: usize = 133;
+
+// The frame of a line, without its line feed.
+pub fn decode(line: &[u8]) -> Frame
+    ensures { λ r. ⌜ r ≡ frameOf (now (line .entry)) ⌝ }
+{
+    let mut bytes = byte_room();
+    let count = spelled(line, &mut bytes);
+    read(&bytes[..count])
+}
+
+// The bytes of a line, or none where it is no frame for its length or its characters.
+fn spelled(line: &[u8], bytes: &mut [u8]) -> usize
+    requires { ⌜ length (now bytes) ≡ 66 ⌝ }
+    ensures { λ r. ⌜ (r ≤ 66) × (length (now (bytes .exit)) ≡ 66) ⌝ }
+    ensures { λ r. ⌜ frameBy (take r (now (bytes .exit))) ≡ frameOf (now (line .entry)) ⌝ }
+{
+    let count = line.len() / 2;
+    if MOST_BYTES < count {
+        return 0;
+    }
+    if !is_hex(line) {
+        return 0;
+    }
+    spell(line, &mut bytes[..count]);
+    count
+}
 
 // Whether the line is digits alone, two a byte.
-pub fn is_hex(line: &[u8]) -> bool
+fn is_hex(line: &[u8]) -> bool
     ensures { λ r. ⌜ r ≡ isHex (now (line .entry)) ⌝ }
 {
     if line.len() % 2 != 0 {
@@ -43,12 +92,14 @@ pub fn is_hex(line: &[u8]) -> bool
     true
 }
 
+// '0' to '9', 'a' to 'f'.
 fn is_digit(c: u8) -> bool
     ensures { λ r. ⌜ r ≡ isDigit c ⌝ }
 {
     if c < 97 { 48 <= c && c <= 57 } else { c <= 102 }
 }
 
+// A digit's value.
 fn digit(c: u8) -> u8
     requires { ⌜ isDigit c ≡ true ⌝ }
     ensures { λ r. ⌜ (r ≡ digitOf c) × (r < 16) ⌝ }
@@ -57,7 +108,7 @@ fn digit(c: u8) -> u8
 }
 
 // Fills bytes with what the digits spell.
-pub fn spell(line: &[u8], bytes: &mut [u8])
+fn spell(line: &[u8], bytes: &mut [u8])
     requires { ⌜ Spells (now line) (now bytes) ⌝ }
     ensures { λ _. ⌜ now (bytes .exit) ≡ spelled (now (line .entry)) ⌝ }
 {
@@ -66,70 +117,126 @@ pub fn spell(line: &[u8], bytes: &mut [u8])
     }
 }
 
-// Which frame the bytes are.
-pub fn kind_of(bytes: &[u8]) -> Kind
-    ensures { λ r. ⌜ r ≡ kindOf (now (bytes .entry)) ⌝ }
+// The frame of bytes.
+fn read(bytes: &[u8]) -> Frame
+    ensures { λ r. ⌜ r ≡ frameBy (now (bytes .entry)) ⌝ }
 {
     if is_open(bytes) {
-        return Kind::Open;
+        return opening(bytes);
     }
-    if is_coordinate(bytes) {
-        return Kind::Coordinate;
+    if starts(bytes, 18, 2) {
+        return coordinate(bytes);
     }
     if is_words(bytes) {
-        return Kind::Words;
+        return feeding(bytes);
     }
-    if is_close(bytes) {
-        return Kind::Close;
+    if starts(bytes, 1, 4) {
+        return bare(Kind::Close);
     }
-    Kind::NoFrame
+    bare(Kind::NoFrame)
 }
 
+// So many bytes, the first of them this.
+fn starts(bytes: &[u8], size: usize, first: u8) -> bool
+    requires { ⌜ 0 < size ⌝ }
+    ensures { λ r. ⌜ r ≡ starts (now (bytes .entry)) size first ⌝ }
+{
+    if bytes.len() != size {
+        return false;
+    }
+    bytes[0] == first
+}
+
+// Whether the bytes are an `01`: side and weight too are in their values.
 fn is_open(bytes: &[u8]) -> bool
     ensures { λ r. ⌜ r ≡ isOpen (now (bytes .entry)) ⌝ }
 {
-    if bytes.len() != 21 {
+    if !starts(bytes, 21, 1) {
         return false;
     }
-    bytes[0] == 1 && bytes[1] < 2 && bytes[2] < 3
+    bytes[1] < 2 && bytes[2] < 3
 }
 
-fn is_coordinate(bytes: &[u8]) -> bool
-    ensures { λ r. ⌜ r ≡ isCoordinate (now (bytes .entry)) ⌝ }
-{
-    if bytes.len() != 18 {
-        return false;
-    }
-    bytes[0] == 2
-}
-
+// Whether the bytes are an `03`.
 fn is_words(bytes: &[u8]) -> bool
     ensures { λ r. ⌜ r ≡ isWords (now (bytes .entry)) ⌝ }
 {
     if bytes.len() < 2 {
         return false;
     }
-    bytes[0] == 3 && bytes[1] <= 16 && bytes.len() == 2 + 4 * (bytes[1] as usize)
+    let count = number(bytes, 1);
+    starts(bytes, 2 + 4 * count, 3) && count <= 16
 }
 
-fn is_close(bytes: &[u8]) -> bool
-    ensures { λ r. ⌜ r ≡ isClose (now (bytes .entry)) ⌝ }
+// The frame of an `01`.
+fn opening(bytes: &[u8]) -> Frame
+    requires { ⌜ length (now bytes) ≡ 21 ⌝ }
+    ensures { λ r. ⌜ r ≡ fieldsOf Open (now (bytes .entry)) ⌝ }
 {
-    if bytes.len() != 1 {
-        return false;
+    Frame {
+        kind: Kind::Open,
+        side: side(bytes),
+        weight: weight(bytes),
+        n: number(bytes, 3),
+        k: number(bytes, 4),
+        index: 0,
+        element: element(bytes, 5),
+        count: 0,
+        words: no_words(),
     }
-    bytes[0] == 4
+}
+
+// The frame of an `02`.
+fn coordinate(bytes: &[u8]) -> Frame
+    requires { ⌜ length (now bytes) ≡ 18 ⌝ }
+    ensures { λ r. ⌜ r ≡ fieldsOf Coordinate (now (bytes .entry)) ⌝ }
+{
+    let mut frame = bare(Kind::Coordinate);
+    frame.index = number(bytes, 1);
+    frame.element = element(bytes, 2);
+    frame
+}
+
+// The frame of an `03`.
+fn feeding(bytes: &[u8]) -> Frame
+    requires { ⌜ (length (now bytes) ≡ 2 + 4 * byteAt (now bytes) 1) × (byteAt (now bytes) 1 ≤ 16) ⌝ }
+    ensures { λ r. ⌜ r ≡ fieldsOf Words (now (bytes .entry)) ⌝ }
+{
+    let mut frame = bare(Kind::Words);
+    let count = number(bytes, 1);
+    frame.count = count;
+    let words = words(bytes, count);
+    frame.words = words;
+    frame
+}
+
+// A frame of no fields.
+fn bare(kind: Kind) -> Frame
+    ensures { λ r. ⌜ r ≡ bare kind ⌝ }
+{
+    Frame {
+        kind,
+        side: Side::Prefix,
+        weight: Weight::Plain,
+        n: 0,
+        k: 0,
+        index: 0,
+        element: Element { c: [0, 0, 0, 0] },
+        count: 0,
+        words: no_words(),
+    }
 }
 
 // The number in byte i.
-pub fn number(bytes: &[u8], i: usize) -> usize
+fn number(bytes: &[u8], i: usize) -> usize
     requires { ⌜ i < length (now bytes) ⌝ }
     ensures { λ r. ⌜ (r ≡ byteAt (now (bytes .entry)) i) × (r < 256) ⌝ }
 {
     bytes[i] as usize
 }
 
-pub fn side(bytes: &[u8]) -> Side
+// The side of an `01`.
+fn side(bytes: &[u8]) -> Side
     requires { ⌜ 1 < length (now bytes) ⌝ }
     ensures { λ r. ⌜ r ≡ sideOf (now (bytes .entry)) ⌝ }
 {
@@ -140,7 +247,8 @@ pub fn side(bytes: &[u8]) -> Side
     }
 }
 
-pub fn weight(bytes: &[u8]) -> Weight
+// The weight of an `01`.
+fn weight(bytes: &[u8]) -> Weight
     requires { ⌜ 2 < length (now bytes) ⌝ }
     ensures { λ r. ⌜ r ≡ weightOf (now (bytes .entry)) ⌝ }
 {
@@ -154,7 +262,7 @@ pub fn weight(bytes: &[u8]) -> Weight
 }
 
 // The element of the 16 bytes from byte b on.
-pub fn element(bytes: &[u8], b: usize) -> Element
+fn element(bytes: &[u8], b: usize) -> Element
     requires { ⌜ b + 16 ≤ length (now bytes) ⌝ }
     ensures { λ r. ⌜ r ≡ elementOf (now (bytes .entry)) b ⌝ }
 {
@@ -168,14 +276,30 @@ pub fn element(bytes: &[u8], b: usize) -> Element
     }
 }
 
-// Fills ws with words, from byte b on.
-pub fn words(bytes: &[u8], b: usize, ws: &mut [u32])
-    requires { ⌜ b + 4 * length (now ws) ≤ length (now bytes) ⌝ }
-    ensures { λ _. ⌜ now (ws .exit) ≡ wordsAt (length (now (ws .entry))) (now (bytes .entry)) b ⌝ }
+// The first `count` words of an `03`, and zeros behind them.
+fn words(bytes: &[u8], count: usize) -> [u32; MOST_WORDS]
+    requires { ⌜ (count ≤ 16) × (2 + 4 * count ≤ length (now bytes)) ⌝ }
+    ensures { λ r. ⌜ r ≡ wordsAt count (now (bytes .entry)) 2 ++ replicate (16 - count) 0 ⌝ }
 {
-    for i in 0..ws.len() {
-        ws[i] = word(bytes, b + 4 * i);
+    let mut words = no_words();
+    for i in 0..count {
+        words[i] = word(bytes, 2 + 4 * i);
     }
+    words
+}
+
+// Room for the words of an `03`.
+fn no_words() -> [u32; MOST_WORDS]
+    ensures { λ r. ⌜ r ≡ noWords ⌝ }
+{
+    [0u32; MOST_WORDS]
+}
+
+// Room for the bytes of a frame.
+fn byte_room() -> [u8; MOST_BYTES]
+    ensures { λ r. ⌜ r ≡ replicate 66 0 ⌝ }
+{
+    [0u8; MOST_BYTES]
 }
 
 // The word of the four bytes from byte b on, the highest first.
@@ -189,6 +313,7 @@ fn word(bytes: &[u8], b: usize) -> u32
         + wide(bytes[b + 3])
 }
 
+// The byte as a word.
 fn wide(b: u8) -> u32
     ensures { λ r. ⌜ (r ≡ b) × (r < 256) ⌝ }
 {
@@ -225,6 +350,7 @@ pub fn put_byte(text: &mut [u8], at: usize, x: u32)
     text[at + 1] = glyph(x % 16);
 }
 
+// The digit of a value.
 fn glyph(d: u32) -> u8
     requires { ⌜ d < 16 ⌝ }
     ensures { λ r. ⌜ r ≡ glyph d ⌝ }

@@ -1,5 +1,5 @@
 -- The answer to a line, after the tests that every line shares. Assumes nothing.
-use mathlib.Core.Path.{_≡_, sym, _∙_}
+use mathlib.Core.Path.{_≡_, sym, ap, _∙_}
 use mathlib.Core.Bool.{not}
 use Prim.Native.Nat.{ℕ}
 use mathlib.Core.List.{List, [], _∷_}
@@ -11,23 +11,32 @@ use Rattle.table.proofs.Answers.{answer-as}
 use Rattle.table.proofs.Outcomes.{left-as}
 use Rattle.table.proofs.Fronts.{front}
 use Rattle.frame.specs.declared.Kind.{Kind}
-use Rattle.frame.specs.Frame.{kindOf}
+use Rattle.frame.specs.declared.Frame.{Frame}
 use Rattle.frames.specs.declared.Reader.{Reader}
-use Rattle.frames.specs.Reader.{isDone, inPlace, kindTests, lineAnswer}
+use Rattle.frames.specs.Reader.{placeOf, inPlace, isDone, kindTests, lineAnswer}
 
 -- 10, 12
 abbrev pub sharedTests : Reader → Kind → List Test
-sharedTests r k = isDone (r .phase) gives 10 ∷ not (inPlace (r .phase) k) gives 12 ∷ []
+sharedTests r k = isDone (r .phase) gives 10 ∷ not (inPlace (placeOf (r .phase)) k) gives 12 ∷ []
 
--- a line of this kind, by the verdict t on the tests that all share
-module _ (r : Reader) (bs : List ℕ) {kind : Kind} (is : kind ≡ kindOf bs) where
-  behind : leaves (verdict (sharedTests r kind)) (verdict (kindTests kind r bs)) (verdict (sharedTests r kind)) ≡ lineAnswer r bs
+-- a line of this frame, by the verdict t on the tests that all share
+module _ (r : Reader) (f : Frame) where
+  abbrev shared : ℕ
+  shared = verdict (sharedTests r (f .kind))
+
+  abbrev own : ℕ
+  own = verdict (kindTests (f .kind) r f)
+
+  -- its own tests, where it is of kind k
+  pub tested : (k : Kind) {n : ℕ} → f .kind ≡ k → n ≡ verdict (kindTests k r f) → n ≡ own
+  tested k e q = q ∙ ap (λ j. verdict (kindTests j r f)) (sym e)
+
+  behind : leaves shared own shared ≡ lineAnswer r f
   unfolding lineAnswer
-  behind = sym (front (sharedTests r kind) (kindTests kind r bs) tt) ∙ rw is
+  behind = sym (front (sharedTests r (f .kind)) (kindTests (f .kind) r f) tt)
 
-  pub refused : {t : Verdict} {z : Refusal} → answer t ≡ verdict (sharedTests r kind) → t ≡ Refused z → number z ≡ lineAnswer r bs
-  refused e h = left-as (verdict (kindTests kind r bs)) (verdict (sharedTests r kind)) h e (answer-as h e) ∙ behind
+  pub refused : {t : Verdict} {z : Refusal} → answer t ≡ shared → t ≡ Refused z → number z ≡ lineAnswer r f
+  refused e h = left-as own shared h e (answer-as h e) ∙ behind
 
-  pub passed : {t : Verdict} {n : ℕ} → answer t ≡ verdict (sharedTests r kind) → t ≡ Accepted → n ≡ verdict (kindTests kind r bs)
-      → n ≡ lineAnswer r bs
-  passed e h k = left-as (verdict (kindTests kind r bs)) (verdict (sharedTests r kind)) h e k ∙ behind
+  pub passed : {t : Verdict} {n : ℕ} → answer t ≡ shared → t ≡ Accepted → n ≡ own → n ≡ lineAnswer r f
+  passed e h k = left-as own shared h e k ∙ behind

@@ -1,16 +1,30 @@
--- How often a coordinate was given, and the loop that looks for one that was not given once, at count i: what is left of the counts
--- decides. Assumes nothing.
-use mathlib.Core.Path.{_≡_, refl, ap, _∙_}
+-- How many words a frame has; how often a coordinate was given, and the loop that looks for one that was not given once, at count i: what
+-- is left of the counts decides. Assumes nothing.
+use mathlib.Core.Path.{_≡_, refl, sym, ap, _∙_}
 use mathlib.Core.Bool.{Bool, true, false, _&&_}
-use Prim.Native.Nat.{ℕ, zero, suc, _+_, _-_, _≤_, _<_}
+use Prim.Native.Nat.{ℕ, zero, suc, _+_, _-_, _≤_, _<_, min}
+use native.Mathlib.Decide.{decLe}
 use native.Mathlib.Numerals.{add-one}
 use native.Mathlib.Omega.{arith}
 use mathlib.Core.List.{List, [], _∷_}
-use lib.ListN.{length, getD, drop}
-use lib.Seq.{drop-cons}
+use lib.ListN.{length, getD, take, drop, length-take}
+use lib.Seq.{drop-cons, take-all}
 use borrow.Author.Tests.{eq-eqb, ne-eqb}
 use lib.Dec.{eqb}
+use Rattle.frame.specs.declared.Frame.{Frame}
+use Rattle.frame.specs.Frame.{wordsOf}
 use Rattle.frames.specs.Reader.{onceEach, onceMore}
+use Rattle.frames.specs.Inner.{Counts}
+
+-- a frame's count, or all words that there is room for
+pub counts : (f : Frame) {n : ℕ} → length (f .words) ≡ 16 → n ≡ min (f .count) 16 → Counts f n
+counts f {n} l e =
+    let size : length (wordsOf f) ≡ n = length-take (f .count) (f .words) ∙ omega arith in
+    record { words = go (decLe (f .count) 16); count = sym size; room = omega arith }
+  where
+    go : Dec (f .count ≤ 16) → take n (f .words) ≡ wordsOf f
+    go (yes h) = let q : n ≡ f .count = omega arith in ap (λ k. take k (f .words)) q
+    go (no h) = take-all n (f .words) (omega arith) ∙ sym (take-all (f .count) (f .words) (omega arith))
 
 pub given-before : (c : ℕ) → (c ≡ 0 → ⊥) → 2 ≡ onceMore c
 given-before zero h = absurd (h refl)

@@ -1,5 +1,5 @@
 -- What every line finds holds before the first line, and an accepted line of each kind keeps it. Assumes nothing.
-use mathlib.Core.Path.{_≡_, refl, sym, ap, subst, _∙_}
+use mathlib.Core.Path.{_≡_, refl, sym, ap, _∙_}
 use mathlib.Core.Bool.{Bool, true, false}
 use Prim.Native.Nat.{ℕ, _*_, _^_, _≤_}
 use native.Mathlib.Omega.{arith}
@@ -19,7 +19,8 @@ use Rattle.plan.specs.Plan.{places, gainedBy}
 use Rattle.plan.specs.Sound as plan
 use Rattle.frame.specs.declared.Kind.{Kind}
 use Rattle.frame.specs.declared.Kind.the-variants.{Open, Coordinate, Words, Close, NoFrame}
-use Rattle.frame.specs.Frame.{kindOf, indexOf, coordinateOf, wordsOf}
+use Rattle.frame.specs.declared.Frame.{Frame}
+use Rattle.frame.specs.Frame.{wordsOf}
 use Rattle.frames.specs.declared.Phase.{Phase}
 use Rattle.frames.specs.declared.Phase.the-variants.{Done}
 use Rattle.frames.specs.declared.Reader.{Reader}
@@ -56,8 +57,8 @@ limits d = record { sound = d .sound; within = d .within }
 pub used-fits : {r : Reader} {out : List ℕ} → Ready r out → used r ≤ length out
 used-fits d = omega (arith, d .room, pow-mono (d .few))
 
-module _ (r : Reader) (bs out : List ℕ) (d : Ready r out) where
-  opened-keeps : Opens bs → Ready (opened bs) (replicate (length out) 0)
+module _ (r : Reader) (f : Frame) (out : List ℕ) (d : Ready r out) where
+  opened-keeps : Opens f → Ready (opened f) (replicate (length out) 0)
   opened-keeps o =
       record {
         sound = record {
@@ -78,10 +79,10 @@ module _ (r : Reader) (bs out : List ℕ) (d : Ready r out) where
   same-keeps phase given beyond =
       record { sound = d .sound; few = d .few; within = d .within; room = d .room; out-below = d .out-below }
 
-  noted-keeps : Reduced (coordinateOf bs) → Ready (noted r bs) out
-  noted-keeps e = go (ltb (indexOf bs) (r .session .plan .k)) refl
+  noted-keeps : Reduced (f .element) → Ready (noted r f) out
+  noted-keeps e = go (ltb (f .index) (r .session .plan .k)) refl
     where
-      go : (t : Bool) → ltb (indexOf bs) (r .session .plan .k) ≡ t → Ready (noted r bs) out
+      go : (t : Bool) → ltb (f .index) (r .session .plan .k) ≡ t → Ready (noted r f) out
       go true q =
           let s = d .sound in
           rw q
@@ -90,7 +91,7 @@ module _ (r : Reader) (bs out : List ℕ) (d : Ready r out) where
               small = s .small;
               fits = s .fits;
               scale-is = s .scale-is;
-              coordinates-below = unreduced-put (r .session .plan .coordinates) (indexOf bs) e (s .coordinates-below);
+              coordinates-below = unreduced-put (r .session .plan .coordinates) (f .index) e (s .coordinates-below);
             };
             few = d .few;
             within = d .within;
@@ -99,15 +100,15 @@ module _ (r : Reader) (bs out : List ℕ) (d : Ready r out) where
           })
       go false q = rw q (same-keeps (r .phase) (r .given) _)
 
-  counted-keeps : Feeds r bs → Ready (counted r bs) (outBy Words r bs out)
-  counted-keeps f =
+  counted-keeps : Feeds r f → Ready (counted r f) (outBy Words r f out)
+  counted-keeps h =
       let plan = r .session .plan in
-      let new : List ℕ = gainedBy plan (r .session .taken) (wordsOf bs) (take (used r) out) in
+      let new : List ℕ = gainedBy plan (r .session .taken) (wordsOf f) (take (used r) out) in
       let n : length new ≡ used r = table-length (places plan) _ in
       record {
         sound = d .sound;
         few = d .few;
-        within = f .within;
+        within = h .within;
         room = length-append new (drop (used r) out) ∙ omega (arith, n, length-drop (used r) out, used-fits d, d .room);
         out-below =
             unreduced-append p new (drop (used r) out) (unreduced-table (places plan) _)
@@ -115,29 +116,27 @@ module _ (r : Reader) (bs out : List ℕ) (d : Ready r out) where
       }
 
   -- what an `03` hands to the piece
-  pub hands : lineAnswer r bs ≡ 0 → kindOf bs ≡ Words → plan.Takes (r .session .plan) (r .session .taken) (wordsOf bs) (take (used r) out)
+  pub hands : lineAnswer r f ≡ 0 → f .kind ≡ Words → plan.Takes (r .session .plan) (r .session .taken) (wordsOf f) (take (used r) out)
   hands a e =
-      let f = feeds r bs a e in
+      let h = feeds r f a e in
       record {
         sound = d .sound;
-        within = f .within;
-        piece-below = f .below;
+        within = h .within;
+        piece-below = h .below;
         room = length-take-le (used r) out (used-fits d);
         out-below = unreduced-take p p-pos (used r) out (d .out-below);
       }
 
--- an accepted line
-pub keeps : (k : Kind) {r : Reader} {bs out : List ℕ} → Takes r k bs out → Ready (taken k r bs) (outBy k r bs out)
-keeps Open {r} {bs} {out} t = opened-keeps r bs out (t .ready) (opens r bs (t .accepted) (sym (t .kind-is)))
-keeps Coordinate {r} {bs} {out} t = noted-keeps r bs out (t .ready) (notes r bs (t .accepted) (sym (t .kind-is)))
-keeps Words {r} {bs} {out} t = counted-keeps r bs out (t .ready) (feeds r bs (t .accepted) (sym (t .kind-is)))
-keeps Close {r} {bs} {out} t = same-keeps r bs out (t .ready) Done (r .given) (r .beyond)
-keeps NoFrame {r} {bs} {out} t = t .ready
-
-pub as-kind : {k kind : Kind} {r : Reader} {bs out : List ℕ} → kind ≡ k → Takes r kind bs out → Takes r k bs out
-as-kind {r = r} {bs = bs} {out = out} e t = subst (λ (j : Kind). Takes r j bs out) e t
+-- an accepted line of kind k
+keeps : (k : Kind) {r : Reader} {f : Frame} {out : List ℕ} → f .kind ≡ k → Takes r f out → Ready (taken k r f) (outBy k r f out)
+keeps Open {r} {f} {out} e t = opened-keeps r f out (t .ready) (opens r f (t .accepted) e)
+keeps Coordinate {r} {f} {out} e t = noted-keeps r f out (t .ready) (notes r f (t .accepted) e)
+keeps Words {r} {f} {out} e t = counted-keeps r f out (t .ready) (feeds r f (t .accepted) e)
+keeps Close {r} {f} {out} e t = same-keeps r f out (t .ready) Done (r .given) (r .beyond)
+keeps NoFrame e t = t .ready
 
 -- what the code of kind k gives
-pub took : (k : Kind) {kind : Kind} {r : Reader} {bs out : List ℕ} {x : Reader} {w : List ℕ} → kind ≡ k → Takes r kind bs out
-    → x ≡ taken k r bs → w ≡ outBy k r bs out → (x ≡ taken kind r bs) × ((w ≡ outBy kind r bs out) × Ready x w)
-took k e t f g = rw (e, f, g) (refl, (refl, keeps k (as-kind e t)))
+pub took : (k : Kind) {r : Reader} {f : Frame} {out : List ℕ} {x : Reader} {w : List ℕ} → f .kind ≡ k → Takes r f out
+    → x ≡ taken k r f → w ≡ outBy k r f out → (x ≡ taken (f .kind) r f) × ((w ≡ outBy (f .kind) r f out) × Ready x w)
+took k {r} {f} {out} e t g h =
+    (g ∙ ap (λ j. taken j r f) (sym e), (h ∙ ap (λ j. outBy j r f out) (sym e), rw (g, h) (keeps k e t)))

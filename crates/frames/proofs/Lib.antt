@@ -1,9 +1,4 @@
 mod Counting
-mod LineEnds
-mod Holding
-mod Printing
-pub mod Spelling
-mod Reading
 mod Answers
 pub mod Accepted
 pub mod Keeping

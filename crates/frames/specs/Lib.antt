@@ -1,3 +1,3 @@
 pub mod Reader
-pub mod Lines
+pub mod State
 pub mod Inner

@@ -21,9 +21,11 @@ use Rattle.session.specs.declared.Session.{Session}
 use Rattle.session.specs.Session.{sessionOf}
 use Rattle.frame.specs.declared.Kind.{Kind}
 use Rattle.frame.specs.declared.Kind.the-variants as kind
-use Rattle.frame.specs.Frame.{kindOf, sideOf, weightOf, variablesOf, coordinatesOf, scaleOf, indexOf, coordinateOf, wordsOf}
+use Rattle.frame.specs.declared.Frame.{Frame}
+use Rattle.frame.specs.Frame.{wordsOf}
 use Rattle.frames.specs.declared.Phase.{Phase}
 use Rattle.frames.specs.declared.Phase.the-variants as phase
+use Rattle.frames.specs.declared.Place.{Place}
 use Rattle.frames.specs.declared.Reader.{Reader}
 use Rattle.frames.specs.declared.Turn.{Turn}
 
@@ -32,35 +34,23 @@ abbrev pub mostPlaces : ℕ
 mostPlaces = 10
 
 -- "Just one `01` comes first; coordinates come in any order before the first `03` or `04`"
-abbrev pub inPlace : Phase → Kind → Bool
-inPlace phase.Start kind.Open = true
-inPlace phase.Points kind.Coordinate = true
-inPlace phase.Points kind.Words = true
-inPlace phase.Points kind.Close = true
-inPlace phase.Words kind.Words = true
-inPlace phase.Words kind.Close = true
-inPlace phase.Start kind.Coordinate = false
-inPlace phase.Start kind.Words = false
-inPlace phase.Start kind.Close = false
-inPlace phase.Points kind.Open = false
-inPlace phase.Words kind.Open = false
-inPlace phase.Words kind.Coordinate = false
-inPlace phase.Done k = false
-inPlace phase.Start kind.NoFrame = false
-inPlace phase.Points kind.NoFrame = false
-inPlace phase.Words kind.NoFrame = false
+abbrev pub placeOf : Phase → Place
+placeOf phase.Start = record { opening = true; coordinates = false; words = false }
+placeOf phase.Points = record { opening = false; coordinates = true; words = true }
+placeOf phase.Words = record { opening = false; coordinates = false; words = true }
+placeOf phase.Done = record { opening = false; coordinates = false; words = false }
 
+-- whether a line of this kind may come; what is no frame never may
+abbrev pub inPlace : Place → Kind → Bool
+inPlace place kind.Open = place .opening
+inPlace place kind.Coordinate = place .coordinates
+inPlace place kind.Words = place .words
+inPlace place kind.Close = place .words
+inPlace place kind.NoFrame = false
+
+-- nothing may come any more
 abbrev pub isDone : Phase → Bool
-isDone phase.Start = false
-isDone phase.Points = false
-isDone phase.Words = false
-isDone phase.Done = true
-
-abbrev pub isPoints : Phase → Bool
-isPoints phase.Start = false
-isPoints phase.Points = true
-isPoints phase.Words = false
-isPoints phase.Done = false
+isDone phase = not (placeOf phase .opening || placeOf phase .coordinates || placeOf phase .words)
 
 -- each of the first k counts is one
 unfoldable pub onceEach : ℕ → List ℕ → Bool
@@ -70,50 +60,52 @@ onceEach (suc k) (c ∷ counts) = eqb c 1 && onceEach k counts
 
 -- 13, at the first `03` or `04`: "coordinates missing, repeated or index at or above k"
 abbrev pub misplaced : Reader → Bool
-misplaced r = isPoints (r .phase) && (r .beyond || not (onceEach (r .session .plan .k) (r .given)))
+misplaced r = placeOf (r .phase) .coordinates && (r .beyond || not (onceEach (r .session .plan .k) (r .given)))
 
 -- "Then at `01`: 3, 4 (k above n), 5, 3 (n - k over 10)"
-abbrev pub openTests : List ℕ → List Test
-openTests bs =
-    ltb most (variablesOf bs) gives 3
-    ∷ ltb most (coordinatesOf bs) gives 3
-    ∷ ltb (variablesOf bs) (coordinatesOf bs) gives 4
-    ∷ unreduced p (scaleOf bs .c) gives 5
-    ∷ ltb mostPlaces (variablesOf bs - coordinatesOf bs) gives 3
+abbrev pub openTests : Frame → List Test
+openTests f =
+    ltb most (f .n) gives 3
+    ∷ ltb most (f .k) gives 3
+    ∷ ltb (f .n) (f .k) gives 4
+    ∷ unreduced p (f .element .c) gives 5
+    ∷ ltb mostPlaces (f .n - f .k) gives 3
     ∷ []
 
 -- "At `02`: 5"
-abbrev pub coordinateTests : List ℕ → List Test
-coordinateTests bs = unreduced p (coordinateOf bs .c) gives 5 ∷ []
+abbrev pub coordinateTests : Frame → List Test
+coordinateTests f = unreduced p (f .element .c) gives 5 ∷ []
 
 -- "At `03`: 5, 8", after 13
-abbrev pub wordsTests : Reader → List ℕ → List Test
-wordsTests r bs =
+abbrev pub wordsTests : Reader → Frame → List Test
+wordsTests r f =
     misplaced r gives 13
-    ∷ unreduced p (wordsOf bs) gives 5
-    ∷ ltb (capacity (r .session .plan)) (r .session .taken + length (wordsOf bs)) gives 8
+    ∷ unreduced p (wordsOf f) gives 5
+    ∷ ltb (capacity (r .session .plan)) (r .session .taken + length (wordsOf f)) gives 8
     ∷ []
 
+-- at `04`
 abbrev pub closeTests : Reader → List Test
 closeTests r = misplaced r gives 13 ∷ []
 
-abbrev pub kindTests : Kind → Reader → List ℕ → List Test
-kindTests kind.Open r bs = openTests bs
-kindTests kind.Coordinate r bs = coordinateTests bs
-kindTests kind.Words r bs = wordsTests r bs
-kindTests kind.Close r bs = closeTests r
-kindTests kind.NoFrame r bs = []
+-- a kind's own tests
+abbrev pub kindTests : Kind → Reader → Frame → List Test
+kindTests kind.Open r f = openTests f
+kindTests kind.Coordinate r f = coordinateTests f
+kindTests kind.Words r f = wordsTests r f
+kindTests kind.Close r f = closeTests r
+kindTests kind.NoFrame r f = []
 
 -- "Any line after `04` is 10; else 12 (not a frame, a byte outside its values, or out of place)", and then the kind's own
-abbrev pub lineTests : Reader → List ℕ → List Test
-lineTests r bs =
+abbrev pub lineTests : Reader → Frame → List Test
+lineTests r f =
     isDone (r .phase) gives 10
-    ∷ not (inPlace (r .phase) (kindOf bs)) gives 12
-    ∷ kindTests (kindOf bs) r bs
+    ∷ not (inPlace (placeOf (r .phase)) (f .kind)) gives 12
+    ∷ kindTests (f .kind) r f
 
--- the answer to a line of these bytes
-unfoldable pub lineAnswer : Reader → List ℕ → ℕ
-lineAnswer r bs = verdict (lineTests r bs)
+-- the answer to a line of this frame
+unfoldable pub lineAnswer : Reader → Frame → ℕ
+lineAnswer r f = verdict (lineTests r f)
 
 -- a session of these numbers, every coordinate 0 as yet
 abbrev pub sessionBy : ℕ → ℕ → Side → Weight → Element → Session
@@ -130,11 +122,11 @@ started =
     }
 
 -- at `01`: the session of the frame's arguments, every coordinate 0 as yet
-abbrev pub opened : List ℕ → Reader
-opened bs =
+abbrev pub opened : Frame → Reader
+opened f =
     record {
       phase = phase.Points;
-      session = sessionBy (variablesOf bs) (coordinatesOf bs) (sideOf bs) (weightOf bs) (scaleOf bs);
+      session = sessionBy (f .n) (f .k) (f .side) (f .weight) (f .element);
       given = replicate most 0;
       beyond = false;
     }
@@ -154,23 +146,23 @@ onceMore zero = 1
 onceMore (suc c) = 2
 
 -- at `02`: the coordinate in its place, and that it was given
-abbrev pub noted : Reader → List ℕ → Reader
-noted r bs =
-    cond (ltb (indexOf bs) (r .session .plan .k))
+abbrev pub noted : Reader → Frame → Reader
+noted r f =
+    cond (ltb (f .index) (r .session .plan .k))
     (record {
       phase = r .phase;
-      session = withCoordinate (r .session) (indexOf bs) (coordinateOf bs);
-      given = set (r .given) (indexOf bs) (onceMore (getD (r .given) (indexOf bs) 0));
+      session = withCoordinate (r .session) (f .index) (f .element);
+      given = set (r .given) (f .index) (onceMore (getD (r .given) (f .index) 0));
       beyond = r .beyond;
     })
     (record { phase = r .phase; session = r .session; given = r .given; beyond = true })
 
 -- at `03`: the words are taken
-abbrev pub counted : Reader → List ℕ → Reader
-counted r bs =
+abbrev pub counted : Reader → Frame → Reader
+counted r f =
     record {
       phase = phase.Words;
-      session = sessionOf (r .session .plan) (r .session .taken + length (wordsOf bs)) (r .session .closed);
+      session = sessionOf (r .session .plan) (r .session .taken + length (wordsOf f)) (r .session .closed);
       given = r .given;
       beyond = r .beyond;
     }
@@ -179,35 +171,37 @@ counted r bs =
 abbrev pub done : Reader → Reader
 done r = record { phase = phase.Done; session = r .session; given = r .given; beyond = r .beyond }
 
-abbrev pub taken : Kind → Reader → List ℕ → Reader
-taken kind.Open r bs = opened bs
-taken kind.Coordinate r bs = noted r bs
-taken kind.Words r bs = counted r bs
-taken kind.Close r bs = done r
-taken kind.NoFrame r bs = r
+-- what an accepted line does to the state
+abbrev pub taken : Kind → Reader → Frame → Reader
+taken kind.Open r f = opened f
+taken kind.Coordinate r f = noted r f
+taken kind.Words r f = counted r f
+taken kind.Close r f = done r
+taken kind.NoFrame r f = r
 
 -- the words of out that the session has: an element for each place
 abbrev pub used : Reader → ℕ
 used r = 4 * places (r .session .plan)
 
 -- out after a line: zeroed at `01`, and at `03` as the session's feed leaves it
-abbrev pub outBy : Kind → Reader → List ℕ → List ℕ → List ℕ
-outBy kind.Open r bs out = replicate (length out) 0
-outBy kind.Words r bs out = gainedBy (r .session .plan) (r .session .taken) (wordsOf bs) (take (used r) out) ++ drop (used r) out
-outBy kind.Coordinate r bs out = out
-outBy kind.Close r bs out = out
-outBy kind.NoFrame r bs out = out
+abbrev pub outBy : Kind → Reader → Frame → List ℕ → List ℕ
+outBy kind.Open r f out = replicate (length out) 0
+outBy kind.Words r f out = gainedBy (r .session .plan) (r .session .taken) (wordsOf f) (take (used r) out) ++ drop (used r) out
+outBy kind.Coordinate r f out = out
+outBy kind.Close r f out = out
+outBy kind.NoFrame r f out = out
 
 -- number and values of a `Turn`: its answer's number, and the state
 abbrev pub turn : Turn → ℕ × Reader
 turn t = (answer (t .answer), t .reader)
 
 -- a line's number, and the state after it; a refused line changes nothing
-unfoldable pub turned : Reader → List ℕ → ℕ × Reader
-turned r bs = (lineAnswer r bs, leaves (lineAnswer r bs) (taken (kindOf bs) r bs) r)
+unfoldable pub turned : Reader → Frame → ℕ × Reader
+turned r f = (lineAnswer r f, leaves (lineAnswer r f) (taken (f .kind) r f) r)
 
-unfoldable pub outAfter : Reader → List ℕ → List ℕ → List ℕ
-outAfter r bs out = leaves (lineAnswer r bs) (outBy (kindOf bs) r bs out) out
+-- out after it
+unfoldable pub outAfter : Reader → Frame → List ℕ → List ℕ
+outAfter r f out = leaves (lineAnswer r f) (outBy (f .kind) r f out) out
 
 -- what every line finds: the state's numbers in their limits, its words and out's below p
 pub record Ready (r : Reader) (out : List ℕ) : Type 0 where

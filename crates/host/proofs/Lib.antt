@@ -1,3 +1,2 @@
 mod Applying
 mod Chaining
-mod Showing

@@ -1,24 +1,9 @@
-// Answers with elements: 0 or the refusal's number, and the elements' words in out.
+// The answer of the next weight's parts: 0 or the refusal's number, and their words in out.
 use point::next::Next;
-use table::Evaluation;
 use table::Verdict;
 ghost use mathlib.Core.Path.{_≡_};
-ghost use Rattle.table.specs.Refusals.{outcome};
 ghost use Rattle.point.specs.Point.{nextOutcome};
-ghost use Rattle.host.specs.Host.{answered, shown};
-
-// 0 and the element's words, or the refusal's number.
-pub fn give(e: Evaluation, out: &mut [u32; 4]) -> u32
-    ensures { λ r. ⌜ answered r (now (out .exit)) ≡ shown (outcome e) (now (out .entry)) ⌝ }
-{
-    match e {
-        Evaluation::Refused(refusal) => Verdict::Refused(refusal).answer(),
-        Evaluation::Value(v) => {
-            *out = [v.c0, v.c1, v.c2, v.c3];
-            0
-        }
-    }
-}
+ghost use Rattle.host_values.specs.Host.{answered, shown};
 
 // 0 and the words of carry, done and omega, or the refusal's number.
 pub fn give_next(e: Next, out: &mut [u32; 12]) -> u32

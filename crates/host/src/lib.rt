@@ -2,9 +2,7 @@
 // four numbers, as in the ward's calls; an operand or an answer that is one element is an array of four words.
 mod answers;
 mod elements;
-pub mod fixed;
 pub mod sessions;
-pub mod values;
 
 use elements::Operation;
 use field::Element;
@@ -14,7 +12,7 @@ ghost use Rattle.point.specs.declared.equality.BitOrder.the-variants.{Msb, Lsb}
 ghost use Rattle.point.specs.Point.{vertexAnswer, tableAnswer, equalityOut, evalEqAnswer, evalNextAnswer, evalSelectAnswer};
 ghost use Rattle.poly.specs.Poly.{newAnswer, newOut, nextOut};
 ghost use Rattle.eq_batch.specs.Batch.{batchAnswer, setOut, addOut};
-ghost use Rattle.host.specs.Host.{elementOf, answered, shown};
+ghost use Rattle.host_values.specs.Host.{elementOf, answered, shown};
 ghost use Rattle.host.specs.declared.elements.Operation.the-variants.{Add, Sub, Mul, Neg, Double};
 ghost use Rattle.host.specs.declared.elements.Operation.the-variants.{MulBase, FromBase, MulRepeat};
 ghost use Rattle.host.specs.Elements.{single, elementAnswer, elementOut};
@@ -90,7 +88,7 @@ pub extern "C" fn host_mul_repeat(x: &[u32; 4], y: &[u32; 4], times: u64, out: &
 pub extern "C" fn host_equality_at_vertex(point: &[u32], vertex: usize, out: &mut [u32; 4]) -> u32
     ensures { λ r. ⌜ answered r (now (out .exit)) ≡ shown (vertexAnswer (now (point .entry)) vertex) (now (out .entry)) ⌝ }
 {
-    answers::give(point::equality::equality_at_vertex(point, vertex), out)
+    host_values::answers::give(point::equality::equality_at_vertex(point, vertex), out)
 }
 
 #[no_mangle]
@@ -114,7 +112,7 @@ pub extern "C" fn host_eval_eq(point: &[u32], other: &[u32], out: &mut [u32; 4])
     ensures { λ r. ⌜ answered r (now (out .exit))
         ≡ shown (evalEqAnswer (now (point .entry)) (now (other .entry))) (now (out .entry)) ⌝ }
 {
-    answers::give(point::next::eval_eq(point, other), out)
+    host_values::answers::give(point::next::eval_eq(point, other), out)
 }
 
 #[no_mangle]
@@ -129,7 +127,7 @@ pub extern "C" fn host_eval_next(point: &[u32], other: &[u32], out: &mut [u32; 1
 pub extern "C" fn host_eval_select(point: &[u32], var: u32, out: &mut [u32; 4]) -> u32
     ensures { λ r. ⌜ answered r (now (out .exit)) ≡ shown (evalSelectAnswer var (now (point .entry))) (now (out .entry)) ⌝ }
 {
-    answers::give(point::select::eval_select(var, point), out)
+    host_values::answers::give(point::select::eval_select(var, point), out)
 }
 
 #[no_mangle]

@@ -1,4 +1,4 @@
-// Additions of weighted rows to out, with one division a coordinate.
+// Weighted words that are added to out, or that it is set to, with one division a coordinate.
 mod steps;
 
 use field::Element;
@@ -6,14 +6,19 @@ use steps::Four;
 ghost use Rattle.algebra.specs.Ring.{Ops};
 ghost use Rattle.field.specs.Field.{field, base, fromWords, Reduced};
 ghost use Rattle.table.specs.Gained.{Gained};
+ghost use mathlib.Core.Path.{_≡_};
+ghost use Prim.Native.Nat.{_+_, _*_, _<_};
 ghost use lib.ListN.{length, getD};
+ghost use Rattle.table.specs.Table.{tableWords};
 ghost use Rattle.kernel.specs.Kernel.{Row, Rows, Groups, twoRows, fourRows, twoWords, fourWords};
+ghost use Rattle.kernel.specs.Inner.{quadAt};
 
 // out[from + y] gains weight words[y], for each word.
 pub fn gain_row(out: &mut [u32], from: usize, words: &[u32], weight: Element)
     requires { ⌜ Row from (now out) (now words) ⌝ }
     requires { ⌜ Reduced weight ⌝ }
-    ensures { λ _. ⌜ Gained from (length (now (words .entry))) (λ y. field .mul (fromWords weight) (base (getD (now (words .entry)) y 0))) (now (out .entry)) (now (out .exit)) ⌝ }
+    ensures { λ _. ⌜ Gained from (length (now (words .entry)))
+        (λ y. field .mul (fromWords weight) (base (getD (now (words .entry)) y 0))) (now (out .entry)) (now (out .exit)) ⌝ }
 {
     for y in 0..words.len() {
         let sum = steps::step(table::get(out, from + y), weight, words[y]);
@@ -92,13 +97,45 @@ pub fn gain_quads(out: &mut [u32], from: usize, n: usize, words: &[u32], w: Weig
     ensures { λ _. ⌜ Gained from n (fourWords w (now (words .entry))) (now (out .entry)) (now (out .exit)) ⌝ }
 {
     for i in 0..n {
-        let column = Four {
-            x0: words[4 * i],
-            x1: words[4 * i + 1],
-            x2: words[4 * i + 2],
-            x3: words[4 * i + 3],
-        };
+        let column = quad(words, i);
         let sum = steps::step_four(table::get(out, from + i), w.w0, w.w1, w.w2, w.w3, column);
         table::put(out, from + i, sum);
+    }
+}
+
+// out[i] becomes w0 words[2i] + w1 words[2i + 1], for each i below n. It is not read.
+pub fn set_pairs(out: &mut [u32], n: usize, words: &[u32], w0: Element, w1: Element)
+    requires { ⌜ Groups 2 0 n (now out) (now words) × (length (now out) ≡ 4 * n) ⌝ }
+    requires { ⌜ Reduced w0 × Reduced w1 ⌝ }
+    ensures { λ _. ⌜ now (out .exit) ≡ tableWords n (twoWords w0 w1 (now (words .entry))) ⌝ }
+{
+    for i in 0..n {
+        let sum = steps::step_two(Element::zero(), w0, words[2 * i], w1, words[2 * i + 1]);
+        table::put(out, i, sum);
+    }
+}
+
+// out[i] becomes the sum of the weights times words[4i] to words[4i + 3], for each i below n. It is not read.
+pub fn set_quads(out: &mut [u32], n: usize, words: &[u32], w: Weights)
+    requires { ⌜ Groups 4 0 n (now out) (now words) × (length (now out) ≡ 4 * n) ⌝ }
+    requires { ⌜ Reduced (w .w0) × Reduced (w .w1) × Reduced (w .w2) × Reduced (w .w3) ⌝ }
+    ensures { λ _. ⌜ now (out .exit) ≡ tableWords n (fourWords w (now (words .entry))) ⌝ }
+{
+    for i in 0..n {
+        let sum = steps::step_four(Element::zero(), w.w0, w.w1, w.w2, w.w3, quad(words, i));
+        table::put(out, i, sum);
+    }
+}
+
+// The words of place i, where a place has four.
+fn quad(words: &[u32], i: usize) -> Four
+    requires { ⌜ 4 * i + 3 < length (now words) ⌝ }
+    ensures { λ r. ⌜ r ≡ quadAt (now (words .entry)) i ⌝ }
+{
+    Four {
+        x0: words[4 * i],
+        x1: words[4 * i + 1],
+        x2: words[4 * i + 2],
+        x3: words[4 * i + 3],
     }
 }

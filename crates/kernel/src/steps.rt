@@ -70,7 +70,9 @@ pub fn step_four(
     words: Four,
 ) -> Element
     requires { ⌜ Reduced w0 × Reduced w1 × Reduced w2 × Reduced w3 × Small words ⌝ }
-    ensures { λ r. ⌜ Holds r (field .add (fromWords old) (fourProducts (fromWords w0) (fromWords w1) (fromWords w2) (fromWords w3) (words .x0) (words .x1) (words .x2) (words .x3))) ⌝ }
+    ensures { λ r. ⌜ Holds r (field .add (fromWords old)
+        (fourProducts (fromWords w0) (fromWords w1) (fromWords w2) (fromWords w3)
+        (words .x0) (words .x1) (words .x2) (words .x3))) ⌝ }
 {
     Element {
         c: [

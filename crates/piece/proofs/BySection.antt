@@ -56,7 +56,7 @@ part-sound s h =
       coordinates-below = s .coordinates-below;
     }
 
-module _ {plan : Plan} {table was : List ℕ} (s : Fills plan table was) {held size words count : ℕ} (h : held ≡ min (plan .n - plan .k) 12)
+module _ {plan : Plan} {table was : List ℕ} (s : Fills plan table was) {held size words count : ℕ} (h : held ≡ min (plan .n - plan .k) 10)
     (r : size ≡ 2 ^ held) (w : words ≡ 2 ^ (plan .k + held)) (c : count ≡ 2 ^ (plan .n - plan .k - held)) where
   pub start : Joined plan table (size * 0) was was
   unfolding tableWords

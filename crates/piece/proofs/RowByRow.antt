@@ -14,13 +14,12 @@ use Rattle.algebra.specs.Ring.{Ops}
 use Rattle.multilinear.specs.declared.Side.the-variants.{Prefix}
 use Rattle.multilinear.specs.declared.Weight.{Weight}
 use Rattle.multilinear.specs.declared.Weight.the-variants.{Plain, Shifted, Next}
-use Rattle.multilinear.specs.Equality.{eqAt}
 use Rattle.multilinear.specs.Folds.{foldAt}
 use Rattle.multilinear.specs.Inner.{skipOf, movedAt}
 use Rattle.multilinear.proofs.Weighed.{fold-moved}
 use Rattle.field.specs.Field.{Ext, field, base, fromWords}
 use Rattle.field.proofs.Laws.{field-ring, base-zero}
-use Rattle.table.specs.Table.{tableWords, elements, entries, placed}
+use Rattle.table.specs.Table.{elements, entries, placed}
 use Rattle.table.specs.Gained.{Gained}
 use Rattle.table.specs.Refusals.{most}
 use Rattle.table.proofs.Laws.{elements-length}
@@ -28,7 +27,8 @@ use Rattle.table.proofs.Gaining.{gained-as}
 use Rattle.table.proofs.Parts.{after, after-below}
 use Rattle.table.proofs.Placed.{placed-after, placed-further, further-fits}
 use Rattle.piece.specs.declared.Terms.{Terms}
-use Rattle.piece.specs.Inner.{Adds, movedBy, Scatters, Scattered}
+use Rattle.piece.specs.Inner.{Adds, movedBy}
+use Rattle.scatter.specs.Scatter.{Scatters, Scattered}
 
 -- at most one row
 one : (weight : Weight) → skipOf weight ≤ 1
@@ -59,27 +59,17 @@ module _ {taken : ℕ} {terms : Terms} {point piece out : List ℕ} (a : Adds te
       let n : 1 * inner ≤ 2 ^ terms .k * inner = mul-le-mul-right inner (pow-pos (terms .k)) in
       omega (arith, a .small)
 
-  -- the table of a block
-  pub block-made : {block : List ℕ} → block ≡ tableWords 16 (eqAt field (elements point (terms .k - 4) 4)) → (b : ℕ) → b + 4 ≡ entries point
-      → block ≡ tableWords 16 (eqAt field (elements point b 4))
-  block-made e b q =
-      let s : terms .k - 4 ≡ b = omega (arith, count) in
-      e ∙ ap (λ n. tableWords 16 (eqAt field (elements point n 4))) s
-
   module _ {early from : ℕ} (c : early ≡ min (length piece) (skip * inner - taken)) (q : from ≡ taken + early - skip * inner) where
     c′ : early ≡ length piece - (length piece - (skip * inner - taken))
     c′ = omega (arith, c)
 
-    pub first-scatters : {block : List ℕ}
-        → (length block ≡ 64 → (b : ℕ) → b + 4 ≡ entries point → block ≡ tableWords 16 (eqAt field (elements point b 4)))
-        → Scatters from point (terms .scale) block (after early piece) out
-    first-scatters table =
+    pub first-scatters : Scatters from point (terms .scale) (after early piece) out
+    first-scatters =
         let w : from + length (after early piece) ≤ 2 ^ terms .k * inner =
         further-fits (skip * inner) taken piece early from c′ q (2 ^ terms .k * inner) (omega (arith, a .within)) in
         record {
           rest-is = rw count (a .point-is);
           weight-is = a .scale-is;
-          block-is = table;
           small = rw (count, places) (a .small);
           within = rw (count, places) w;
           below = after-below early piece (a .piece-below);

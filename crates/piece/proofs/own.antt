@@ -1,2 +1,2 @@
 mod Reaching
-mod Owning
+pub mod Owning

@@ -12,16 +12,18 @@ use Rattle.multilinear.specs.declared.Side.the-variants.{Prefix, Suffix}
 use Rattle.multilinear.specs.declared.Weight.the-variants.{Plain}
 use Rattle.multilinear.specs.Equality.{eqAt}
 use Rattle.multilinear.specs.Folds.{foldAt}
-use Rattle.multilinear.specs.Inner.{skipOf, movedAt, ownAt}
+use Rattle.multilinear.specs.Inner.{skipOf, movedAt, ownAt, ownWeight}
 use Rattle.field.specs.Field.{p, Ext, field, base, fromWords, Reduced, Holds}
 use Rattle.field.specs.declared.Element.{Element}
-use Rattle.table.specs.Table.{tableWords, elementAt, elements, entries, pointOf, placed}
+use Rattle.table.specs.Table.{elementAt, elements, entries, pointOf, placed}
 use Rattle.table.specs.Gained.{Gained}
 use Rattle.table.specs.Refusals.{most}
 use Rattle.point.specs.Coordinates.{Coordinates}
 use Rattle.kernel.specs.Kernel.{Rows}
 use Rattle.kernel.specs.declared.Weights.{Weights}
 use Rattle.weigh.specs.Weigh.{Block}
+use Rattle.plan.specs.declared.Plan.{Plan}
+use Rattle.plan.specs.Plan.{coordinatesOf}
 use Rattle.piece.specs.declared.Terms.{Terms}
 use Rattle.piece.specs.declared.own.Stand.{Stand}
 use Rattle.piece.specs.declared.places.Shape.{Shape}
@@ -89,42 +91,6 @@ rowBy stand terms point taken piece i =
     field .mul (field .mul (fromWords (terms .scale)) (eqAt field (elements point 0 (terms .k)) (stand .row)))
     (base (placed taken piece (stand .start + i * stand .stride)))
 
--- words from word `from` on of rows of as many words as out has elements, the coordinates that are left, and a weight; a block of 64
--- words is the table of eq of the last four coordinates
-pub record Scatters (from : ℕ) (rest : List ℕ) (weight : Element) (block words out : List ℕ) : Type 0 where
-  pub rest-is : Coordinates (entries rest) rest
-  pub weight-is : Reduced weight
-  pub block-is : length block ≡ 64 → (a : ℕ) → a + 4 ≡ entries rest → block ≡ tableWords 16 (eqAt field (elements rest a 4))
-  pub small : 2 ^ entries rest * entries out ≤ 2 ^ most
-  pub within : from + length words ≤ 2 ^ entries rest * entries out
-  pub below : unreduced p words ≡ false
-  pub room : length out ≡ 4 * entries out
-  pub out-below : unreduced p out ≡ false
-
--- out gains, at each place, the words of its rows by weight·eq of the coordinates that are left
-abbrev pub Scattered : ℕ → List ℕ → Element → List ℕ → List ℕ → List ℕ → Type 0
-Scattered from rest weight words out w =
-    Gained 0 (entries out)
-    (foldAt field Prefix Plain (entries out) (pointOf rest) (fromWords weight) (λ t. base (placed from words t)))
-    out w
-
--- what place i gains of 2^n whole rows
-abbrev pub wholeRows : ℕ → List ℕ → Element → ℕ → List ℕ → ℕ → Ext
-wholeRows n rest weight inner words i = foldAt field Prefix Plain inner (elements rest 0 n) (fromWords weight) (λ t. base (getD words t 0)) i
-
--- a weight, the table of a block of sixteen rows and the rows' words, all reduced, and an element of out for each word of a row
-pub record Weighs (weight : Element) (block words out : List ℕ) : Type 0 where
-  pub weight-is : Reduced weight
-  pub block-there : length block ≡ 64
-  pub block-below : unreduced p block ≡ false
-  pub rows-are : Rows 16 (entries out) out words
-  pub out-below : unreduced p out ≡ false
-
--- the word of place i of row y by weight times element y of the block
-unfoldable pub rowTerm : Element → List ℕ → ℕ → List ℕ → ℕ → ℕ → Ext
-rowTerm weight block inner words i y =
-    field .mul (field .mul (fromWords weight) (elementAt block y)) (base (getD words (y * inner + i) 0))
-
 -- a piece, and the table of a block of the last `low` coordinates
 pub record Blocks (shape : Shape) (point block piece out : List ℕ) : Type 0 where
   pub adds : Adds (shape .terms) point (shape .taken) piece out
@@ -169,3 +135,7 @@ pub record Weighed (block : List ℕ) (skip : ℕ) (w : Weights) : Type 0 where
   pub at1 : Holds (w .w1) (weightOf block skip 1)
   pub at2 : Holds (w .w2) (weightOf block skip 2)
   pub at3 : Holds (w .w3) (weightOf block skip 3)
+
+-- no row of a plan's fold has a weight of its own
+abbrev pub Unowned : Plan → Type 0
+Unowned plan = ownWeight field (plan .weight) (coordinatesOf plan) (fromWords (plan .scale)) ≡ field .zero

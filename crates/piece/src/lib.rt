@@ -5,6 +5,7 @@
 //
 // No weight is made twice: on the prefix side the weights of a range of rows come from their common part, coordinate by coordinate, and
 // on the suffix side a place's words are summed by halves, so that a row costs one product or less, and a piece some k more.
+mod groups;
 mod own;
 mod places;
 mod rows;
@@ -60,15 +61,21 @@ fn add_terms(side: Side, terms: Terms, words: &[u32], taken: usize, piece: &[u32
     own::add_own(side, terms, point, taken, piece, out);
 }
 
-// out becomes the fold of the whole table: on the suffix side section by section, so that each is filled while it is in the cache.
+// out becomes the fold of the whole table. On the suffix side places of two words or four are set, where no row has a weight of its own;
+// else it goes section by section, so that each is filled while it is in the cache.
 pub fn fold(plan: Plan, table: &[u32], out: &mut [u32])
     requires { ⌜ Fills plan (now table) (now out) ⌝ }
     ensures { λ _. ⌜ now (out .exit) ≡ foldOf plan (now (table .entry)) ⌝ }
 {
     let side = plan.side;
+    let weight = plan.weight;
     match side {
         Side::Prefix => fold_whole(plan, table, out),
-        Side::Suffix => sections::by_sections(plan, table, out),
+        Side::Suffix => match weight {
+            Weight::Plain => groups::by_groups(plan, table, out),
+            Weight::Shifted => groups::by_groups(plan, table, out),
+            Weight::Next => sections::by_sections(plan, table, out),
+        },
     }
 }
 

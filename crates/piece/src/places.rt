@@ -73,7 +73,8 @@ fn block_variables(k: usize, len: usize) -> usize
 // The first place, the whole ones after it, and the last.
 fn add_places(shape: Shape, point: &[u32], block: &[u32], piece: &[u32], out: &mut [u32])
     requires { ⌜ Blocks shape (now point) (now block) (now piece) (now out) × (0 < length (now piece)) ⌝ }
-    ensures { λ _. ⌜ Gained 0 (shape .terms .inner) (movedBy Suffix (shape .terms) (now (point .entry)) (shape .taken) (now (piece .entry)))
+    ensures { λ _. ⌜ Gained 0 (shape .terms .inner)
+        (movedBy Suffix (shape .terms) (now (point .entry)) (shape .taken) (now (piece .entry)))
         (now (out .entry)) (now (out .exit)) ⌝ }
 {
     let rows = table::rows(shape.terms.k);
@@ -176,7 +177,7 @@ fn add_whole(
 }
 
 // The weights of four rows.
-fn weights_of(block: &[u32], skip: usize) -> Weights
+pub fn weights_of(block: &[u32], skip: usize) -> Weights
     requires { ⌜ (16 ≤ length (now block)) × (unreduced p (now block) ≡ false) ⌝ }
     ensures { λ r. ⌜ Weighed (now (block .entry)) skip r ⌝ }
 {

@@ -7,8 +7,8 @@ ghost use Rattle.plan.specs.Plan.{foldOf};
 ghost use Rattle.plan.specs.Sound.{Sound, Fills};
 ghost use Rattle.plan.specs.Section.{sectionOf};
 
-// The most places of a section, as variables: 64 KiB of out.
-const HELD: usize = 12;
+// The most places of a section, as variables: 16 KiB of out.
+const HELD: usize = 10;
 
 // out becomes the fold of the whole table.
 pub fn by_sections(plan: Plan, table: &[u32], out: &mut [u32])

@@ -129,7 +129,8 @@ pub fn at_row(point: &[u32], k: usize, row: usize) -> Element
 // The table of scale eq in a bit order, by 2^k - 1 products: each coordinate doubles it, as a new highest bit.
 pub fn fill(out: &mut [u32], point: &[u32], k: usize, order: BitOrder, scale: Element)
     requires { ⌜ Fits k (now point) scale (now out) ⌝ }
-    ensures { λ _. ⌜ now (out .exit) ≡ tableWords (2 ^ k) (λ y. field .mul (fromWords scale) (eqBy order (elements (now (point .entry)) 0 k) y)) ⌝ }
+    ensures { λ _. ⌜ now (out .exit)
+        ≡ tableWords (2 ^ k) (λ y. field .mul (fromWords scale) (eqBy order (elements (now (point .entry)) 0 k) y)) ⌝ }
 {
     table::put(out, 0, scale);
     let mut len = 1;
@@ -143,7 +144,8 @@ pub fn fill(out: &mut [u32], point: &[u32], k: usize, order: BitOrder, scale: El
 // The table of scale eq of the low coordinates that follow the first high ones.
 pub fn fill_last(out: &mut [u32], point: &[u32], high: usize, low: usize, scale: Element)
     requires { ⌜ Follows high low (now point) scale (now out) ⌝ }
-    ensures { λ _. ⌜ now (out .exit) ≡ tableWords (2 ^ low) (λ y. field .mul (fromWords scale) (eqAt field (elements (now (point .entry)) high low) y)) ⌝ }
+    ensures { λ _. ⌜ now (out .exit)
+        ≡ tableWords (2 ^ low) (λ y. field .mul (fromWords scale) (eqAt field (elements (now (point .entry)) high low) y)) ⌝ }
 {
     let skipped = 4 * high;
     fill(out, &point[skipped..], low, BitOrder::Msb, scale);

@@ -79,7 +79,8 @@ fn agreements(point: &[u32], other: &[u32], k: usize) -> Element
 // pair.
 fn next_parts(point: &[u32], other: &[u32], k: usize) -> Next
     requires { ⌜ Coordinates k (now point) × Coordinates k (now other) ⌝ }
-    ensures { λ r. ⌜ nextOutcome r ≡ given 0 (partWords (evalNext field (elements (now (point .entry)) 0 k) (elements (now (other .entry)) 0 k))) ⌝ }
+    ensures { λ r. ⌜ nextOutcome r
+        ≡ given 0 (partWords (evalNext field (elements (now (point .entry)) 0 k) (elements (now (other .entry)) 0 k))) ⌝ }
 {
     let mut carry = Element::one();
     let mut done = Element::zero();

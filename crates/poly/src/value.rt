@@ -70,7 +70,8 @@ fn test_value(split: Verdict, count: usize, table: &[u32], point: &[u32]) -> Ver
 // Each row's weight goes to the row after it; the last row has its own once more.
 fn next_value(table: &[u32], point: &[u32], n: usize) -> Element
     requires { ⌜ Coordinates n (now point) × Whole n (now table) ⌝ }
-    ensures { λ r. ⌜ Holds r (nextValueAt field (elements (now (point .entry)) 0 n) (λ y. base (getD (now (table .entry)) y 0))) ⌝ }
+    ensures { λ r. ⌜ Holds r
+        (nextValueAt field (elements (now (point .entry)) 0 n) (λ y. base (getD (now (table .entry)) y 0))) ⌝ }
 {
     let last = table.len() - 1;
     let own = point::equality::at_row(point, n, last).mul_base(table[last]);

@@ -6,7 +6,8 @@ use mathlib.Core.List.{List, [], append-nil}
 use lib.ListN.{length, length-append}
 use Rattle.frame.specs.Frame.{wordsOf}
 use Rattle.frames.specs.Reader.{started}
-use Rattle.runs.specs.Runs.{State, start, wordsBy, isSettled}
+use Rattle.frames.specs.State.{State}
+use Rattle.runs.specs.Runs.{start, wordsBy, isSettled}
 use Rattle.runs.proofs.Steps.{never, Keeps}
 
 pub record Counted (s : State) (ws : List ℕ) : Type 0 where
@@ -20,12 +21,12 @@ counted-start out = record { count = refl; none = λ q. refl }
 pub counted-keeps : Keeps wordsBy Counted
 counted-keeps =
     record {
-      opens = λ s bs ws i e h.
+      opens = λ s f ws i e h.
           let z : ws ≡ [] = i .none (ap isSettled e) in
           rw z (record { count = refl; none = λ q. refl });
-      puts = λ s bs ws i e h. rw append-nil (record { count = i .count; none = i .none });
-      strays = λ s bs ws i e h. rw append-nil (record { count = i .count; none = i .none });
-      takes = λ s bs ws i h.
-          record { count = ap (λ n. n + length (wordsOf bs)) (i .count) ∙ sym (length-append ws (wordsOf bs)); none = λ q. never q };
-      closes = λ s bs ws i h. rw append-nil (record { count = i .count; none = λ q. never q });
+      puts = λ s f ws i e h l. rw append-nil (record { count = i .count; none = i .none });
+      strays = λ s f ws i e h. rw append-nil (record { count = i .count; none = i .none });
+      takes = λ s f ws i h.
+          record { count = ap (λ n. n + length (wordsOf f)) (i .count) ∙ sym (length-append ws (wordsOf f)); none = λ q. never q };
+      closes = λ s f ws i h. rw append-nil (record { count = i .count; none = λ q. never q });
     }

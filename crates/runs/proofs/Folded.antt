@@ -14,11 +14,13 @@ use Rattle.plan.specs.Plan.{places, foldOf, gainedBy}
 use Rattle.plan.proofs.Padding.{take-zeros}
 use Rattle.plan.proofs.Joining as plan
 use Rattle.frame.specs.declared.Kind.the-variants as kind
-use Rattle.frame.specs.Frame.{indexOf, coordinateOf, wordsOf}
+use Rattle.frame.specs.declared.Frame.{Frame}
+use Rattle.frame.specs.Frame.{wordsOf}
 use Rattle.frames.specs.declared.Phase.the-variants as phase
 use Rattle.frames.specs.Reader.{mostPlaces, used, started, opened, withCoordinate, outBy}
 use Rattle.frames.proofs.Accepted.{Opens}
-use Rattle.runs.specs.Runs.{State, start, wordsBy, isOpened, isSettled}
+use Rattle.frames.specs.State.{State}
+use Rattle.runs.specs.Runs.{start, wordsBy, isOpened, isSettled}
 use Rattle.runs.proofs.Steps.{never, Keeps}
 use Rattle.runs.proofs.Counted.{Counted, counted-start, counted-keeps}
 
@@ -33,10 +35,10 @@ unfolding started
 folded-start out l = record { counted = counted-start out; room = λ q. l; folds = λ q. never (sym q) }
 
 -- at `01` out is zeroed
-opened-folds : (bs out : List ℕ) → Opens bs → length out ≡ 4 * 2 ^ mostPlaces
-    → take (used (opened bs)) (replicate (length out) 0) ≡ foldOf (opened bs .session .plan) []
-opened-folds bs out h l =
-    take-zeros (used (opened bs)) (length out) (omega (arith, pow-mono (h .few))) ∙ plan.none (opened bs .session .plan)
+opened-folds : (f : Frame) (out : List ℕ) → Opens f → length out ≡ 4 * 2 ^ mostPlaces
+    → take (used (opened f)) (replicate (length out) 0) ≡ foldOf (opened f .session .plan) []
+opened-folds f out h l =
+    take-zeros (used (opened f)) (length out) (omega (arith, pow-mono (h .few))) ∙ plan.none (opened f .session .plan)
 
 module _ (s : State) (ws : List ℕ) (d : Folded s ws) where
   abbrev was : Plan
@@ -51,48 +53,48 @@ module _ (s : State) (ws : List ℕ) (d : Folded s ws) where
       d .folds (ap isOpened q) ∙ ap (foldOf was) z ∙ sym (plan.none was) ∙ plan.none now ∙ ap (foldOf now) (sym z)
 
   -- at `03` out's used part gains the words
-  fed-folds : (bs : List ℕ) → isOpened (s .reader .phase) ≡ true
-      → take (used (s .reader)) (outBy kind.Words (s .reader) bs (s .out)) ≡ foldOf was (ws ++ wordsOf bs)
-  fed-folds bs q =
+  fed-folds : (f : Frame) → isOpened (s .reader .phase) ≡ true
+      → take (used (s .reader)) (outBy kind.Words (s .reader) f (s .out)) ≡ foldOf was (ws ++ wordsOf f)
+  fed-folds f q =
       take-at _ (drop (used (s .reader)) (s .out)) (used (s .reader)) (table-length (places was) _)
-      ∙ ap₂ (λ n l. gainedBy was n (wordsOf bs) l) (d .counted .count) (d .folds q)
-      ∙ plan.joined was ws (wordsOf bs)
+      ∙ ap₂ (λ n l. gainedBy was n (wordsOf f) l) (d .counted .count) (d .folds q)
+      ∙ plan.joined was ws (wordsOf f)
 
 pub folded-keeps : Keeps wordsBy Folded
 folded-keeps =
     record {
-      opens = λ s bs ws i e h.
+      opens = λ s f ws i e h.
           record {
-            counted = counted-keeps .opens s bs ws (i .counted) e h;
+            counted = counted-keeps .opens s f ws (i .counted) e h;
             room = λ q. never q;
             folds = λ q.
-                opened-folds bs (s .out) h (i .room (ap isOpened e))
-                ∙ ap (λ l. foldOf (opened bs .session .plan) (l ++ [])) (sym (i .counted .none (ap isSettled e)));
+                opened-folds f (s .out) h (i .room (ap isOpened e))
+                ∙ ap (λ l. foldOf (opened f .session .plan) (l ++ [])) (sym (i .counted .none (ap isSettled e)));
           };
-      puts = λ s bs ws i e h.
+      puts = λ s f ws i e h l.
           rw append-nil
           (record {
-            counted = rw append-nil at (counted-keeps .puts s bs ws (i .counted) e h);
+            counted = rw append-nil at (counted-keeps .puts s f ws (i .counted) e h l);
             room = i .room;
-            folds = λ q. put-folds s ws i e (indexOf bs) (coordinateOf bs);
+            folds = λ q. put-folds s ws i e (f .index) (f .element);
           });
-      strays = λ s bs ws i e h.
+      strays = λ s f ws i e h.
           rw append-nil
           (record {
-            counted = rw append-nil at (counted-keeps .strays s bs ws (i .counted) e h);
+            counted = rw append-nil at (counted-keeps .strays s f ws (i .counted) e h);
             room = i .room;
             folds = i .folds;
           });
-      takes = λ s bs ws i h.
+      takes = λ s f ws i h.
           record {
-            counted = counted-keeps .takes s bs ws (i .counted) h;
+            counted = counted-keeps .takes s f ws (i .counted) h;
             room = λ q. never q;
-            folds = λ q. fed-folds s ws i bs (h .opened);
+            folds = λ q. fed-folds s ws i f (h .opened);
           };
-      closes = λ s bs ws i h.
+      closes = λ s f ws i h.
           rw append-nil
           (record {
-            counted = rw append-nil at (counted-keeps .closes s bs ws (i .counted) h);
+            counted = rw append-nil at (counted-keeps .closes s f ws (i .counted) h);
             room = λ q. never q;
             folds = λ q. i .folds (h .opened);
           });

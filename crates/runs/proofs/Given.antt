@@ -1,6 +1,6 @@
 -- Of each coordinate's index: how often the accepted `02` lines gave it, and what they gave. Assumes nothing.
 use mathlib.Core.Path.{_≡_, refl, sym, ap, _∙_}
-use mathlib.Core.Bool.{Bool, true, false, cond, _&&_}
+use mathlib.Core.Bool.{Bool, true, false, cond}
 use mathlib.Core.Logic.{_≢_}
 use Prim.Native.Nat.{ℕ, zero, suc, _+_, _*_, _≤_, _<_}
 use native.Mathlib.Decide.{ℕ-discrete}
@@ -14,9 +14,10 @@ use Rattle.field.specs.declared.Element.{Element}
 use Rattle.table.specs.Table.{getAt, putAt}
 use Rattle.table.specs.Refusals.{most}
 use Rattle.table.proofs.Laws.{length-put, get-put-same, get-put-other}
-use Rattle.frame.specs.Hex.{wordsAt}
-use Rattle.frame.specs.Frame.{coordinatesOf, indexOf, coordinateOf, wordsOf}
+use Rattle.frame.specs.declared.Frame.{Frame}
+use Rattle.frame.specs.Frame.{wordsOf}
 use Rattle.frame.specs.declared.Kind.the-variants as kind
+use Rattle.frame.proofs.Glyphs.{and-both}
 use Rattle.frames.specs.declared.Phase.{Phase}
 use Rattle.frames.specs.declared.Phase.the-variants as phase
 use Rattle.frames.specs.declared.Reader.{Reader}
@@ -46,10 +47,6 @@ pub record Given (i : ℕ) (r : Reader) (es : List Element) : Type 0 where
   pub stray : r .session .plan .k ≤ i → r .beyond ≡ false → es ≡ []
   pub each : isSettled (r .phase) ≡ true → onceEach (r .session .plan .k) (r .given) ≡ true
   pub within : isSettled (r .phase) ≡ true → r .beyond ≡ false
-
-and-both : (a b : Bool) → a && b ≡ true → (a ≡ true) × (b ≡ true)
-and-both true b h = (refl, h)
-and-both false b h = never (sym h)
 
 -- what the test for 13 says of each count
 once-each : (k : ℕ) (counts : List ℕ) → onceEach k counts ≡ true → (i : ℕ) → i < k → getD counts i 0 ≡ 1
@@ -136,33 +133,29 @@ module _ (i : ℕ) (r : Reader) (es : List Element) (d : Given i r es) (q : r .p
         within = λ z. unsettled z;
       }
 
-size : (bs : List ℕ) → length (coordinateOf bs .c) ≡ 4
-unfolding wordsAt
-size bs = refl
-
 module _ (i : ℕ) where
   -- an `02` brings nothing to another index, and its element to its own
-  brings-there : (bs : List ℕ) → indexOf bs ≢ i → elementBy kind.Coordinate i bs ≡ []
-  brings-there bs n = ap (λ b. cond b (coordinateOf bs ∷ []) []) (ne-eqb (indexOf bs) i n)
+  brings-there : (f : Frame) → f .index ≢ i → elementBy kind.Coordinate i f ≡ []
+  brings-there f n = ap (λ b. cond b (f .element ∷ []) []) (ne-eqb (f .index) i n)
 
-  brings-here : (bs : List ℕ) → indexOf bs ≡ i → elementBy kind.Coordinate i bs ≡ coordinateOf bs ∷ []
-  brings-here bs e = ap (λ b. cond b (coordinateOf bs ∷ []) []) (eq-eqb (indexOf bs) i e)
+  brings-here : (f : Frame) → f .index ≡ i → elementBy kind.Coordinate i f ≡ f .element ∷ []
+  brings-here f e = ap (λ b. cond b (f .element ∷ []) []) (eq-eqb (f .index) i e)
 
-  puts : (r : Reader) (bs : List ℕ) (es : List Element) → Given i r es → r .phase ≡ phase.Points → indexOf bs < r .session .plan .k
-      → Given i (put r (indexOf bs) (coordinateOf bs)) (es ++ elementBy kind.Coordinate i bs)
-  puts r bs es d q h = go (ℕ-discrete (indexOf bs) i)
+  puts : (r : Reader) (f : Frame) (es : List Element) → Given i r es → r .phase ≡ phase.Points → f .index < r .session .plan .k
+      → length (f .element .c) ≡ 4 → Given i (put r (f .index) (f .element)) (es ++ elementBy kind.Coordinate i f)
+  puts r f es d q h l = go (ℕ-discrete (f .index) i)
     where
-      go : Dec (indexOf bs ≡ i) → Given i (put r (indexOf bs) (coordinateOf bs)) (es ++ elementBy kind.Coordinate i bs)
-      go (yes e) = rw (brings-here bs e, e) (put-here i r es d q (coordinateOf bs) (size bs) (omega arith))
-      go (no n) = rw (brings-there bs n, append-nil) (put-there i r es d q (indexOf bs) (coordinateOf bs) (λ e. n (sym e)))
+      go : Dec (f .index ≡ i) → Given i (put r (f .index) (f .element)) (es ++ elementBy kind.Coordinate i f)
+      go (yes e) = rw (brings-here f e, e) (put-here i r es d q (f .element) l (omega arith))
+      go (no n) = rw (brings-there f n, append-nil) (put-there i r es d q (f .index) (f .element) (λ e. n (sym e)))
 
-  strays : (r : Reader) (bs : List ℕ) (es : List Element) → Given i r es → r .phase ≡ phase.Points → r .session .plan .k ≤ indexOf bs
-      → Given i (strayed r) (es ++ elementBy kind.Coordinate i bs)
-  strays r bs es d q h = go (ℕ-discrete (indexOf bs) i)
+  strays : (r : Reader) (f : Frame) (es : List Element) → Given i r es → r .phase ≡ phase.Points → r .session .plan .k ≤ f .index
+      → Given i (strayed r) (es ++ elementBy kind.Coordinate i f)
+  strays r f es d q h = go (ℕ-discrete (f .index) i)
     where
-      go : Dec (indexOf bs ≡ i) → Given i (strayed r) (es ++ elementBy kind.Coordinate i bs)
+      go : Dec (f .index ≡ i) → Given i (strayed r) (es ++ elementBy kind.Coordinate i f)
       go (yes e) = stray-here i r es d q _ (omega arith)
-      go (no n) = rw (brings-there bs n, append-nil) (stray-there i r es d q)
+      go (no n) = rw (brings-there f n, append-nil) (stray-there i r es d q)
 
   -- an accepted `03` or `04`: 13 was tested, now or before
   settled : (r : Reader) (es : List Element) → Given i r es → Placed r → (ph : Phase) → isOpened ph ≡ true → (taken : ℕ)
@@ -206,16 +199,16 @@ module _ (i : ℕ) where
   unfolding started
   given-start = fresh started (shaped-zeros 0 (omega arith)) refl refl
 
-  pub given-keeps : Keeps (λ k bs. elementBy k i bs) (λ s es. Given i (s .reader) es)
+  pub given-keeps : Keeps (λ k f. elementBy k i f) (λ s es. Given i (s .reader) es)
   given-keeps =
       record {
-        opens = λ s bs es d e h.
-            rw (d .none (ap isOpened e)) (fresh (opened bs) (shaped-zeros (coordinatesOf bs) (h .narrow)) refl refl);
-        puts = λ s bs es d e h. puts (s .reader) bs es d e h;
-        strays = λ s bs es d e h. strays (s .reader) bs es d e h;
-        takes = λ s bs es d h.
-            rw append-nil (settled (s .reader) es d h phase.Words refl (s .reader .session .taken + length (wordsOf bs)));
-        closes = λ s bs es d h. rw append-nil (settled (s .reader) es d h phase.Done refl (s .reader .session .taken));
+        opens = λ s f es d e h.
+            rw (d .none (ap isOpened e)) (fresh (opened f) (shaped-zeros (f .k) (h .narrow)) refl refl);
+        puts = λ s f es d e h l. puts (s .reader) f es d e h l;
+        strays = λ s f es d e h. strays (s .reader) f es d e h;
+        takes = λ s f es d h.
+            rw append-nil (settled (s .reader) es d h phase.Words refl (s .reader .session .taken + length (wordsOf f)));
+        closes = λ s f es d h. rw append-nil (settled (s .reader) es d h phase.Done refl (s .reader .session .taken));
       }
 
   -- so from then on

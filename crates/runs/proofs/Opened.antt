@@ -4,7 +4,8 @@ use mathlib.Core.Bool.{true, false}
 use Prim.Native.Nat.{ℕ}
 use mathlib.Core.List.{List, [], _∷_, append-nil}
 use Rattle.frames.specs.Reader.{started}
-use Rattle.runs.specs.Runs.{State, start, Opening, heldBy, openingBy, isOpened}
+use Rattle.frames.specs.State.{State}
+use Rattle.runs.specs.Runs.{start, Opening, heldBy, openingBy, isOpened}
 use Rattle.runs.proofs.Steps.{never, Keeps}
 
 pub record Opened (s : State) (os : List Opening) : Type 0 where
@@ -18,11 +19,11 @@ opened-start out = record { none = λ q. refl; held = λ q. never (sym q) }
 pub opened-keeps : Keeps openingBy Opened
 opened-keeps =
     record {
-      opens = λ s bs os i e h.
+      opens = λ s f os i e h.
           let z : os ≡ [] = i .none (ap isOpened e) in
           rw z (record { none = λ q. never q; held = λ q. refl });
-      puts = λ s bs os i e h. rw append-nil (record { none = i .none; held = i .held });
-      strays = λ s bs os i e h. rw append-nil (record { none = i .none; held = i .held });
-      takes = λ s bs os i h. rw append-nil (record { none = λ q. never q; held = λ q. i .held (h .opened) });
-      closes = λ s bs os i h. rw append-nil (record { none = λ q. never q; held = λ q. i .held (h .opened) });
+      puts = λ s f os i e h l. rw append-nil (record { none = i .none; held = i .held });
+      strays = λ s f os i e h. rw append-nil (record { none = i .none; held = i .held });
+      takes = λ s f os i h. rw append-nil (record { none = λ q. never q; held = λ q. i .held (h .opened) });
+      closes = λ s f os i h. rw append-nil (record { none = λ q. never q; held = λ q. i .held (h .opened) });
     }

@@ -22,7 +22,7 @@ folded ls out l = lines-keep wordsBy Folded folded-keeps joined (λ s. refl) (λ
 
 were-given : (i : ℕ) (ls : List (List ℕ)) (out : List ℕ) → Given i (after ls (start out) .reader) (given i ls (start out))
 were-given i ls out =
-    lines-keep (λ k bs. elementBy k i bs) (λ s es. Given i (s .reader) es) (given-keeps i) (given i) (λ s. refl) (λ l ls s. refl) ls
+    lines-keep (λ k f. elementBy k i f) (λ s es. Given i (s .reader) es) (given-keeps i) (given i) (λ s. refl) (λ l ls s. refl) ls
     (start out) [] (given-start i)
 
 pub runs : Runs

@@ -14,29 +14,17 @@ use Rattle.plan.specs.Plan.{foldOf}
 use Rattle.session.specs.declared.Session.{Session}
 use Rattle.frame.specs.declared.Kind.{Kind}
 use Rattle.frame.specs.declared.Kind.the-variants as kind
-use Rattle.frame.specs.Hex.{bytesOf}
-use Rattle.frame.specs.Frame.{kindOf, sideOf, weightOf, variablesOf, coordinatesOf, scaleOf, indexOf, coordinateOf, wordsOf}
+use Rattle.frame.specs.declared.Frame.{Frame}
+use Rattle.frame.specs.Frame.{frameOf, wordsOf}
 use Rattle.frames.specs.declared.Phase.{Phase}
 use Rattle.frames.specs.declared.Phase.the-variants as phase
 use Rattle.frames.specs.declared.Reader.{Reader}
-use Rattle.frames.specs.Reader.{started, lineAnswer, turned, outAfter, used, mostPlaces}
-
--- the program's state, and its out beside it
-pub record State : Type 0 where
-  pub reader : Reader
-  pub out : List ℕ
+use Rattle.frames.specs.Reader.{started, used, mostPlaces}
+use Rattle.frames.specs.State.{State, numberOf, step}
 
 -- before the first line, out is anything of 2^10 elements
 abbrev pub start : List ℕ → State
 start out = record { reader = started; out = out }
-
--- after a line
-abbrev pub step : List ℕ → State → State
-step line s =
-    record {
-      reader = turned (s .reader) (bytesOf line) .1;
-      out = outAfter (s .reader) (bytesOf line) (s .out);
-    }
 
 -- after lines, one after another
 abbrev pub after : List (List ℕ) → State → State
@@ -51,9 +39,9 @@ pub record Opening : Type 0 where
   pub k : ℕ
   pub scale : Element
 
--- by the bytes of the line
-abbrev pub openingOf : List ℕ → Opening
-openingOf bs = record { side = sideOf bs; weight = weightOf bs; n = variablesOf bs; k = coordinatesOf bs; scale = scaleOf bs }
+-- by the line's frame
+abbrev pub openingOf : Frame → Opening
+openingOf f = record { side = f .side; weight = f .weight; n = f .n; k = f .k; scale = f .element }
 
 -- and what a session has of it
 abbrev pub heldBy : Session → Opening
@@ -61,41 +49,41 @@ heldBy s =
     record { side = s .plan .side; weight = s .plan .weight; n = s .plan .n; k = s .plan .k; scale = s .plan .scale }
 
 -- what lines of a kind bring
-abbrev pub openingBy : Kind → List ℕ → List Opening
-openingBy kind.Open bs = openingOf bs ∷ []
-openingBy kind.Coordinate bs = []
-openingBy kind.Words bs = []
-openingBy kind.Close bs = []
-openingBy kind.NoFrame bs = []
+abbrev pub openingBy : Kind → Frame → List Opening
+openingBy kind.Open f = openingOf f ∷ []
+openingBy kind.Coordinate f = []
+openingBy kind.Words f = []
+openingBy kind.Close f = []
+openingBy kind.NoFrame f = []
 
-abbrev pub wordsBy : Kind → List ℕ → List ℕ
-wordsBy kind.Words bs = wordsOf bs
-wordsBy kind.Open bs = []
-wordsBy kind.Coordinate bs = []
-wordsBy kind.Close bs = []
-wordsBy kind.NoFrame bs = []
+abbrev pub wordsBy : Kind → Frame → List ℕ
+wordsBy kind.Words f = wordsOf f
+wordsBy kind.Open f = []
+wordsBy kind.Coordinate f = []
+wordsBy kind.Close f = []
+wordsBy kind.NoFrame f = []
 
-abbrev pub elementBy : Kind → ℕ → List ℕ → List Element
-elementBy kind.Coordinate i bs = cond (eqb (indexOf bs) i) (coordinateOf bs ∷ []) []
-elementBy kind.Open i bs = []
-elementBy kind.Words i bs = []
-elementBy kind.Close i bs = []
-elementBy kind.NoFrame i bs = []
+abbrev pub elementBy : Kind → ℕ → Frame → List Element
+elementBy kind.Coordinate i f = cond (eqb (f .index) i) (f .element ∷ []) []
+elementBy kind.Open i f = []
+elementBy kind.Words i f = []
+elementBy kind.Close i f = []
+elementBy kind.NoFrame i f = []
 
 -- what the accepted `01` lines give, in order
 abbrev pub openings : List (List ℕ) → State → List Opening
 openings [] s = []
-openings (l ∷ ls) s = leaves (lineAnswer (s .reader) (bytesOf l)) (openingBy (kindOf (bytesOf l)) (bytesOf l)) [] ++ openings ls (step l s)
+openings (l ∷ ls) s = leaves (numberOf s l) (openingBy (frameOf l .kind) (frameOf l)) [] ++ openings ls (step l s)
 
 -- the words of the accepted `03` lines, joined in order
 abbrev pub joined : List (List ℕ) → State → List ℕ
 joined [] s = []
-joined (l ∷ ls) s = leaves (lineAnswer (s .reader) (bytesOf l)) (wordsBy (kindOf (bytesOf l)) (bytesOf l)) [] ++ joined ls (step l s)
+joined (l ∷ ls) s = leaves (numberOf s l) (wordsBy (frameOf l .kind) (frameOf l)) [] ++ joined ls (step l s)
 
 -- the coordinates that the accepted `02` lines give for index i, in order
 abbrev pub given : ℕ → List (List ℕ) → State → List Element
 given i [] s = []
-given i (l ∷ ls) s = leaves (lineAnswer (s .reader) (bytesOf l)) (elementBy (kindOf (bytesOf l)) i (bytesOf l)) [] ++ given i ls (step l s)
+given i (l ∷ ls) s = leaves (numberOf s l) (elementBy (frameOf l .kind) i (frameOf l)) [] ++ given i ls (step l s)
 
 -- an `01` was accepted; a `03` or `04` was
 abbrev pub isOpened : Phase → Bool

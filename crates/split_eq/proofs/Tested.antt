@@ -18,11 +18,11 @@ use Rattle.point.specs.Coordinates.{Coordinates}
 use Rattle.point.proofs.Coordinates.{coordinates}
 use Rattle.weigh.specs.Weigh.{Whole, WholeExt}
 use Rattle.work.specs.Work.{first, others, workDiffers}
-use Rattle.work.specs.Inner.{Sized, Open}
+use Rattle.work.specs.Inner.{BothTables, Open}
 use Rattle.split_eq.specs.Split.{baseAnswer, extAnswer, lastTests, accumulateAnswer}
 
 -- 1 and 4 do not hold: the work buffer has just both tables' words
-pub sized : (work : List ℕ) (k : ℕ) → splits work ≡ false → workDiffers work k ≡ false → Sized k work
+pub sized : (work : List ℕ) (k : ℕ) → splits work ≡ false → workDiffers work k ≡ false → BothTables k work
 sized work k a b = record { size = omega (arith, whole work a, same (entries work) (2 ^ first k + 2 ^ others k) b) }
 
 -- 2 and 4 do not hold: a table of base words, and one of elements, has an entry for each vertex of k coordinates
@@ -35,7 +35,7 @@ ext-rows ws k b s a c = omega (arith, whole ws s, base-rows (entries ws) k (omeg
 
 -- what the filling of the work buffer asks
 abbrev pub Fillable : List ℕ → Element → List ℕ → Type 0
-Fillable point scale work = (Coordinates (entries point) point × Reduced scale) × Sized (entries point) work
+Fillable point scale work = (Coordinates (entries point) point × Reduced scale) × BothTables (entries point) work
 
 module _ (point : List ℕ) (scale : Element) (work : List ℕ) where
   pub last-tested : 0 ≡ verdict (lastTests point scale work) → Fillable point scale work

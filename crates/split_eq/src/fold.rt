@@ -128,7 +128,7 @@ fn compress(
 {
     let side = kind.side;
     let weight = kind.weight;
-    let tested = tests::fold(table, point, scale, work, out);
+    let tested = tests::of_fold(table, point, scale, work, out);
     match tested {
         Verdict::Refused(refusal) => Verdict::Refused(refusal),
         Verdict::Accepted => {

@@ -12,7 +12,7 @@ pub fn last_scalar(point: &[u32], scale: Element, work: &mut [u32]) -> Evaluatio
     ensures { λ r. ⌜ outcome r ≡ lastAnswer (now (point .entry)) scale (now (work .entry)) ⌝ }
     ensures { λ _. ⌜ now (work .exit) ≡ lastWork (now (point .entry)) scale (now (work .entry)) ⌝ }
 {
-    let tested = tests::last(point, scale, work);
+    let tested = tests::of_last(point, scale, work);
     match tested {
         Verdict::Refused(refusal) => Evaluation::Refused(refusal),
         Verdict::Accepted => {
@@ -38,7 +38,7 @@ pub fn accumulate_into(
     ensures { λ _. ⌜ now (out .exit)
         ≡ accumulateOut (now (point .entry)) scale given (now (work .entry)) (now (out .entry)) ⌝ }
 {
-    let tested = tests::accumulate(point, scale, given, work, out);
+    let tested = tests::of_accumulate(point, scale, given, work, out);
     match tested {
         Verdict::Refused(refusal) => Verdict::Refused(refusal),
         Verdict::Accepted => {

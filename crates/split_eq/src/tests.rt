@@ -8,7 +8,7 @@ ghost use Rattle.table.specs.Inner.{onward};
 ghost use Rattle.split_eq.specs.Split.{foldAnswer, valueTests, baseAnswer, extAnswer, lastTests, accumulateAnswer};
 ghost use Rattle.split_eq.specs.Inner.{splitTests, wordTests};
 
-pub fn fold(table: &[u32], point: &[u32], scale: Element, work: &[u32], out: &[u32]) -> Verdict
+pub fn of_fold(table: &[u32], point: &[u32], scale: Element, work: &[u32], out: &[u32]) -> Verdict
     ensures { λ r. ⌜ answer r
         ≡ foldAnswer (now (table .entry)) (now (point .entry)) scale (now (work .entry)) (now (out .entry)) ⌝ }
 {
@@ -26,20 +26,20 @@ pub fn fold(table: &[u32], point: &[u32], scale: Element, work: &[u32], out: &[u
     words(sized, table, point, scale)
 }
 
-pub fn base(table: &[u32], point: &[u32], scale: Element, work: &[u32]) -> Verdict
+pub fn of_base(table: &[u32], point: &[u32], scale: Element, work: &[u32]) -> Verdict
     ensures { λ r. ⌜ answer r ≡ baseAnswer (now (table .entry)) (now (point .entry)) scale (now (work .entry)) ⌝ }
 {
     value(split(point, work), table.len(), table, point, scale, work)
 }
 
-pub fn ext(table: &[u32], point: &[u32], scale: Element, work: &[u32]) -> Verdict
+pub fn of_ext(table: &[u32], point: &[u32], scale: Element, work: &[u32]) -> Verdict
     ensures { λ r. ⌜ answer r ≡ extAnswer (now (table .entry)) (now (point .entry)) scale (now (work .entry)) ⌝ }
 {
     let whole = split(table, point).refuse_if(table::splits(work), Refusal::Split);
     value(whole, table.len() / 4, table, point, scale, work)
 }
 
-pub fn last(point: &[u32], scale: Element, work: &[u32]) -> Verdict
+pub fn of_last(point: &[u32], scale: Element, work: &[u32]) -> Verdict
     ensures { λ r. ⌜ answer r ≡ verdict (lastTests (now (point .entry)) scale (now (work .entry))) ⌝ }
 {
     let words = scale.c;
@@ -50,7 +50,7 @@ pub fn last(point: &[u32], scale: Element, work: &[u32]) -> Verdict
         .refuse_if(field::unreduced(&words), Refusal::Unreduced)
 }
 
-pub fn accumulate(
+pub fn of_accumulate(
     point: &[u32],
     scale: Element,
     given: Element,

@@ -24,7 +24,7 @@ pub fn eval_base(table: &[u32], point: &[u32], scale: Element, work: &mut [u32])
     ensures { λ r. ⌜ outcome r ≡ scaledBaseAnswer (now (table .entry)) (now (point .entry)) scale (now (work .entry)) ⌝ }
     ensures { λ _. ⌜ now (work .exit) ≡ baseWork (now (table .entry)) (now (point .entry)) scale (now (work .entry)) ⌝ }
 {
-    let tested = tests::base(table, point, scale, work);
+    let tested = tests::of_base(table, point, scale, work);
     match tested {
         Verdict::Refused(refusal) => Evaluation::Refused(refusal),
         Verdict::Accepted => {
@@ -40,7 +40,7 @@ pub fn eval_ext(table: &[u32], point: &[u32], scale: Element, work: &mut [u32]) 
     ensures { λ r. ⌜ outcome r ≡ scaledExtAnswer (now (table .entry)) (now (point .entry)) scale (now (work .entry)) ⌝ }
     ensures { λ _. ⌜ now (work .exit) ≡ extWork (now (table .entry)) (now (point .entry)) scale (now (work .entry)) ⌝ }
 {
-    let tested = tests::ext(table, point, scale, work);
+    let tested = tests::of_ext(table, point, scale, work);
     match tested {
         Verdict::Refused(refusal) => Evaluation::Refused(refusal),
         Verdict::Accepted => {
@@ -56,7 +56,7 @@ pub fn eval_next_base(table: &[u32], point: &[u32], scale: Element, work: &mut [
     ensures { λ r. ⌜ outcome r ≡ scaledNextBaseAnswer (now (table .entry)) (now (point .entry)) scale (now (work .entry)) ⌝ }
     ensures { λ _. ⌜ now (work .exit) ≡ baseWork (now (table .entry)) (now (point .entry)) scale (now (work .entry)) ⌝ }
 {
-    let tested = tests::base(table, point, scale, work);
+    let tested = tests::of_base(table, point, scale, work);
     match tested {
         Verdict::Refused(refusal) => Evaluation::Refused(refusal),
         Verdict::Accepted => {

@@ -8,8 +8,20 @@ use mathlib.Core.List.{List}
 use lib.ListN.{length, getD, take, List·getD-eq-default}
 use lib.Seq.{getD-take, length-take-le}
 use borrow.Author.Tests.{lt-ltb, le-ltb}
+use Rattle.algebra.specs.Ring.{Ops}
+use Rattle.algebra.proofs.Ring.{mul-zero}
+use Rattle.field.specs.Field.{Ext, field, base}
+use Rattle.field.proofs.Laws.{field-ring, base-zero}
 use Rattle.table.specs.Table.{placed}
 use Rattle.table.proofs.Parts.{after, after-length, after-word}
+
+-- a word that is not there adds nothing
+pub absent : (e : Ext) {w : ℕ} → w ≡ 0 → field .mul e (base w) ≡ field .zero
+absent e q = ap (λ v. field .mul e (base v)) q ∙ ap (field .mul e) base-zero ∙ mul-zero field-ring e
+
+-- what is left of a sum after a part of each
+pub left-over : (a b s c : ℕ) {n : ℕ} → s ≤ a → c ≤ b → a + b ≤ s + c + n → a - s + (b - c) ≤ n
+left-over a b s c h k m = omega arith
 
 module _ (from : ℕ) (ws : List ℕ) where
   -- a row before the words

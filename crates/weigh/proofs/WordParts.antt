@@ -9,7 +9,6 @@ use lib.Pow.{pow-mono}
 use lib.Seq.{length-take-le}
 use Rattle.algebra.specs.Ring.{Ops}
 use Rattle.algebra.specs.Sum.{sumTo}
-use Rattle.algebra.proofs.Ring.{mul-zero}
 use Rattle.algebra.proofs.Sums.{sum-ext, sum-none, sum-middle}
 use Rattle.algebra.proofs.Words.{unreduced-take, unreduced-drop}
 use Rattle.multilinear.specs.Values.{valueAt}
@@ -17,17 +16,13 @@ use Rattle.multilinear.specs.Beside.{line}
 use Rattle.multilinear.proofs.Values.{value-ext, value-none}
 use Rattle.field.specs.Field.{p, p-pos, Ext, field, base, fromWords, Holds}
 use Rattle.field.specs.declared.Element.{Element}
-use Rattle.field.proofs.Laws.{field-ring, base-zero}
+use Rattle.field.proofs.Laws.{field-ring}
 use Rattle.table.specs.Table.{getAt, elementAt, elements, placed}
 use Rattle.table.proofs.Parts.{after, after-length, after-below, get-lent}
-use Rattle.table.proofs.Placed.{placed-before, placed-word, placed-after, placed-none, placed-low, placed-high}
+use Rattle.table.proofs.Placed.{absent, left-over, placed-before, placed-word, placed-after, placed-none, placed-low, placed-high}
 use Rattle.dots.specs.Dots.{Dots}
 use Rattle.weigh.specs.Weigh.{blockVariables, Parts, blockSum, partValue}
 use Rattle.weigh.proofs.Splitting.{one-block, twice, fewer, joined}
-
--- a row of 0 adds nothing
-pub absent : (e : Ext) {w : ℕ} → w ≡ 0 → field .mul e (base w) ≡ field .zero
-absent e q = ap (λ v. field .mul e (base v)) q ∙ ap (field .mul e) base-zero ∙ mul-zero field-ring e
 
 -- no row has a word
 pub no-words : (low : ℕ) (block : List ℕ) (zs : List Ext) (word : ℕ → ℕ) → ((y : ℕ) → word y ≡ 0)
@@ -37,10 +32,6 @@ no-words low block zs word e =
     value-ext field-ring zs _ _
     (λ h b. sum-ext field-ring (2 ^ low) _ _ (λ l c. absent (elementAt block l) (e _)) ∙ sum-none field-ring (2 ^ low))
     ∙ value-none field-ring zs
-
--- what is left of a sum after a part of each
-pub left-over : (a b s c : ℕ) {n : ℕ} → s ≤ a → c ≤ b → a + b ≤ s + c + n → a - s + (b - c) ≤ n
-left-over a b s c h k m = omega arith
 
 -- the smaller of two numbers as a difference
 less : (a b n : ℕ) → n ≡ min a b → n ≡ a - (a - b)

@@ -12,7 +12,7 @@ use Rattle.table.specs.Table.{elementAt}
 use Rattle.table.specs.Gained.{Gained}
 use Rattle.table.proofs.Gaining.{none, blocks, gained-table}
 use Rattle.work.specs.Work.{first, others}
-use Rattle.work.specs.Inner.{Tables, rowWeight, accumulated, Open, Block}
+use Rattle.work.specs.Inner.{Tables, rowWeight, accumulated, Open, Stretch}
 use Rattle.work.proofs.Weights.{rows-of, edge, block-weight}
 
 -- what row y gains
@@ -37,7 +37,7 @@ module _ (k : ℕ) (work : List ℕ) (given : Element) where
       within = rw q1 (edge k h (omega arith))
 
       module _ (ws w : List ℕ) (d : Blocks k work given n1 h ws w) where
-        pub ready : Tables k work → Open k ws → Block n0 n1 (h * n1) work w
+        pub ready : Tables k work → Open k ws → Stretch n0 n1 (h * n1) work w
         ready is rows =
             record {
               there = omega (arith, is .size);

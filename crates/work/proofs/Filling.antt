@@ -18,10 +18,10 @@ use Rattle.table.proofs.Parts.{both-parts, part-length}
 use Rattle.point.specs.Inner.{Fits, Follows}
 use Rattle.point.specs.Coordinates.{Coordinates}
 use Rattle.work.specs.Work.{first, others, workWords}
-use Rattle.work.specs.Inner.{Sized}
+use Rattle.work.specs.Inner.{BothTables}
 use Rattle.work.proofs.Weights.{together}
 
-module _ (k : ℕ) (work : List ℕ) (n0 : ℕ) (sized : Sized k work) (rows : n0 ≡ 2 ^ first k) where
+module _ (k : ℕ) (work : List ℕ) (n0 : ℕ) (sized : BothTables k work) (rows : n0 ≡ 2 ^ first k) where
   pub within : 4 * n0 ≤ length work
   within = omega (arith, sized .size)
 

@@ -11,7 +11,7 @@ use Rattle.table.specs.Refusals.{most}
 use Rattle.work.specs.Work.{first, others}
 
 -- work has just both tables' words
-pub record Sized (k : ℕ) (work : List ℕ) : Type 0 where
+pub record BothTables (k : ℕ) (work : List ℕ) : Type 0 where
   pub size : length work ≡ 4 * (2 ^ first k + 2 ^ others k)
 
 -- work holds two tables of k coordinates, all reduced
@@ -34,7 +34,7 @@ pub record Open (k : ℕ) (out : List ℕ) : Type 0 where
   pub below : unreduced p out ≡ false
 
 -- n elements of work from `first` on, and n of out from `from` on, all reduced
-pub record Block (first n from : ℕ) (work out : List ℕ) : Type 0 where
+pub record Stretch (first n from : ℕ) (work out : List ℕ) : Type 0 where
   pub there : 4 * (first + n) ≤ length work
   pub room : 4 * (from + n) ≤ length out
   pub work-below : unreduced p work ≡ false

@@ -13,7 +13,7 @@ ghost use Rattle.table.specs.Table.{elementAt};
 ghost use Rattle.table.specs.Gained.{Gained};
 ghost use Rattle.point.specs.Coordinates.{Coordinates};
 ghost use Rattle.work.specs.Work.{workDiffers, workWords};
-ghost use Rattle.work.specs.Inner.{Sized, Tables, rowWeight, accumulated, Open, Block};
+ghost use Rattle.work.specs.Inner.{BothTables, Tables, rowWeight, accumulated, Open, Stretch};
 
 // 4: work has not just the words of both tables. No slice has as many as 2^62 elements.
 pub fn differs(work: &[u32], k: usize) -> bool
@@ -29,7 +29,7 @@ pub fn differs(work: &[u32], k: usize) -> bool
 
 // work becomes both tables of the point; the second is written from the middle of the buffer.
 pub fn fill(work: &mut [u32], point: &[u32], k: usize, scale: Element)
-    requires { ⌜ (Coordinates k (now point) × Reduced scale) × Sized k (now work) ⌝ }
+    requires { ⌜ (Coordinates k (now point) × Reduced scale) × BothTables k (now work) ⌝ }
     ensures { λ _. ⌜ now (work .exit) ≡ workWords k (now (point .entry)) (fromWords scale) ⌝ }
 {
     let first = k / 2;
@@ -63,7 +63,7 @@ pub fn accumulate(work: &[u32], k: usize, given: Element, out: &mut [u32])
 
 // out gains, from place `from` on, seed times the n elements of work from `first` on.
 fn gain_table(work: &[u32], first: usize, n: usize, seed: Element, from: usize, out: &mut [u32])
-    requires { ⌜ Block first n from (now work) (now out) × Reduced seed ⌝ }
+    requires { ⌜ Stretch first n from (now work) (now out) × Reduced seed ⌝ }
     ensures { λ _. ⌜ Gained from n (λ y. field .mul (fromWords seed) (elementAt (now (work .entry)) (first + y)))
         (now (out .entry)) (now (out .exit)) ⌝ }
 {

@@ -1,5 +1,4 @@
 // The field's examples.
-use crate::print;
 use field::Element;
 ghost use Rattle.field.specs.Field.{Reduced};
 

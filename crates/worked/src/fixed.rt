@@ -1,5 +1,4 @@
 // The examples on fixing: the table of f = 1, 4, 9, 16.
-use crate::print;
 use field::Element;
 use fixing::Remaining;
 

@@ -1,5 +1,4 @@
 // The examples on points: z = (2, 3).
-use crate::print;
 use field::Element;
 use point::next::Next;
 

@@ -1,5 +1,5 @@
-//! Links the archive of the proved operations, target/staticlib/libhost.a of
-//! the repository, or the one in the folder HOST_LIB_DIR.
+//! Links the archives of the proved operations, libhost.a and libhost_values.a
+//! in target/staticlib of the repository, or those in the folder HOST_LIB_DIR.
 
 use std::env;
 use std::path::PathBuf;
@@ -12,10 +12,10 @@ fn main() {
         // oracle/crates/host is three below the repository's root.
         None => here.join("../../../target/staticlib"),
     };
-    println!(
-        "cargo:rerun-if-changed={}",
-        folder.join("libhost.a").display()
-    );
     println!("cargo:rustc-link-search=native={}", folder.display());
-    println!("cargo:rustc-link-lib=static=host");
+    for name in ["host", "host_values"] {
+        let archive = folder.join(format!("lib{name}.a"));
+        println!("cargo:rerun-if-changed={}", archive.display());
+        println!("cargo:rustc-link-lib=static={name}");
+    }
 }

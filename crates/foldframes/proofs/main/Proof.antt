@@ -1,28 +1,28 @@
 -- `foldframes::main` meets its contract: what a turn requires is kept, and the count of turns falls. Assumes nothing.
-use mathlib.Core.Path.{sym, ap, _∙_}
-use Prim.Native.Nat.{ℕ}
-use native.Mathlib.Omega.{arith}
+use mathlib.Core.Path.{_≡_, sym}
 use borrow.Author.Needs.{needs}
-use lib.ListN.{length, length-replicate}
-use Rattle.frames.specs.Inner.{mostLine}
-use Rattle.frames.proofs.Keeping.{at-start-zeros}
-use Rattle.foldframes.specs.Progress.{Going}
+use lib.ListN.{length}
+use Rattle.program.specs.Blocks.{Going}
+use Rattle.program.proofs.Starting.{at-start}
+use Rattle.foldframes.specs.Progress.{Kept}
 use Rattle.foldframes.proofs.main.Statement.{statement}
 use Rattle.foldframes.proofs.main.Tie as tie
 
 abbrev Inv-loop : tie.InvT-loop
-Inv-loop out₀ line₀ at₀ turns₀ out line at turns = Going at line out
+Inv-loop block₀ line₀ out₀ text₀ at₀ turns₀ block line out text at turns = Kept at line out text × (65536 ≡ length block)
 
 abbrev μ-loop : tie.MeasureT-loop
-μ-loop out₀ line₀ at₀ turns₀ out line at turns = turns
+μ-loop block₀ line₀ out₀ text₀ at₀ turns₀ block line out text at turns = turns
 
 loop-holds : tie.Need-loop-holds Inv-loop μ-loop
 loop-holds c =
-    record {
-      ready = rw (c .start .ensures) (at-start-zeros (c .before .before .out-room .ensures));
-      held = omega arith;
-      room = ap length (c .before .line-room .ensures) ∙ length-replicate {A = ℕ} mostLine 0;
-    }
+    let rooms = at-start (c .before .before .before .line-room .ensures) (c .before .before .out-room .ensures) (c .before .text-room .ensures) in
+    (record { goes = λ e. rw (c .start .ensures) rooms }, c .before .before .before .before .large-buffer .ensures)
+
+-- a turn is made
+module _ (c : tie.Then1 Inv-loop μ-loop) where
+  on : Going (c .before .before .loop .at .program) (c .before .before .loop .line) (c .before .before .loop .out) (c .before .before .loop .text)
+  on = c .before .before .loop .inv .0 .goes (c .if1 .taken)
 
 pub main-spec : {M : Type 1} → statement M
 main-spec =
@@ -30,15 +30,19 @@ main-spec =
     (tie.spec
     Inv-loop
     μ-loop
-    (search needs)
-    (search needs)
-    (search needs)
+    (λ c κs. search needs)
+    (λ c κs. search needs)
+    (λ c κs. search needs)
+    (λ c κs. search needs)
+    (λ c κs. search needs)
     loop-holds
-    (λ c. sym (c .before .before .before .loop .inv .room))
-    (λ c. sym (c .before .before .before .before .loop .inv .ready .room))
-    (λ c κs. c .before .before .before .before .loop .inv)
-    (search needs)
-    (search needs)
-    (λ c. c .before .before .turn .ensures)
-    (search needs)
-    (search needs))
+    (λ c. c .before .before .before .before .loop .inv .1)
+    (λ c. sym (on (c .before .before .before) .line-room))
+    (λ c. sym (on (c .before .before .before .before) .ready .room))
+    (λ c. sym (on (c .before .before .before .before .before) .text-room))
+    (λ c κs. on (c .before .before .before .before .before))
+    (λ c. search needs)
+    (λ c. search needs)
+    (λ c. (c .before .before .before .before .turn .ensures, search needs))
+    (λ c. search needs)
+    (λ c. search needs))

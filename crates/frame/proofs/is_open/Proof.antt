@@ -1,46 +1,35 @@
--- `frame::is_open` meets its contract: four tests in a row. Assumes nothing.
-use mathlib.Core.Path.{_≡_}
-use mathlib.Core.Bool.{_&&_}
-use mathlib.Core.Logic.{⊎-elim}
-use lib.Dec.{eqb, ltb}
+-- `frame::is_open` meets its contract: the tests in turn. Assumes nothing.
+use mathlib.Core.Path.{_≡_, sym, _∙_}
+use mathlib.Core.Bool.{true}
+use mathlib.Core.List.{List}
+use Prim.Native.Nat.{ℕ}
+use lib.ListN.{length}
+use native.Mathlib.Omega.{arith}
 use borrow.Author.Needs.{needs}
-use borrow.Author.Tests.{eq-eqb, ne-eqb}
-use Rattle.frame.specs.Frame.{byteAt}
-use Rattle.frame.proofs.Joining.{kept, shut, last, cut}
+use borrow.Author.Tests.{lt-ltb, le-ltb, not-true, not-false}
+use Rattle.frame.specs.Frame.{starts}
+use Rattle.frame.proofs.Grammar.{sized}
 use Rattle.frame.proofs.is_open.Statement.{statement}
 use Rattle.frame.proofs.is_open.Tie as tie
 
-returns-2 : tie.Need-returns-2
-returns-2 c =
-    let met = c .before .before in
-    let bs = met .before .before .before .args .bytes .now in
-    last _ _ _ _ _ (eq-eqb _ _ (met .before .before .if1 .left))
-    (⊎-elim
-    {C = met .if2 .if3 ≡ eqb (byteAt bs 0) 1 && ltb (byteAt bs 1) 2}
-    (λ w. kept _ _ _ _ (w .0 .taken) (w .2))
-    (λ w. shut _ _ _ _ (w .0 .left) (w .1))
-    (met .if2 .came))
-    (c .before .if3 .taken)
+-- it starts as an `01`
+module _ (c : tie.Else1) where
+  abbrev bs : List ℕ
+  bs = c .before .before .before .args .bytes .now
 
-returns-3 : tie.Need-returns-3
-returns-3 c =
-    let met = c .before in
-    let bs = met .before .before .before .args .bytes .now in
-    cut _ _ _ _ _ (eq-eqb _ _ (met .before .before .if1 .left))
-    (⊎-elim
-    {C = met .if2 .if3 ≡ eqb (byteAt bs 0) 1 && ltb (byteAt bs 1) 2}
-    (λ w. kept _ _ _ _ (w .0 .taken) (w .2))
-    (λ w. shut _ _ _ _ (w .0 .left) (w .1))
-    (met .if2 .came))
-    (c .if3 .left)
+  begun : starts bs 21 1 ≡ true
+  begun = sym (c .before .starts .ensures) ∙ not-false _ (c .if1 .left)
+
+  size : length bs ≡ 21
+  size = sized bs 21 1 begun
 
 pub is-open-spec : {M : Type 1} → statement M
 is-open-spec =
     tie.close
     (tie.spec
-    (λ c. simp (ne-eqb _ _ (c .if1 .taken)))
     (search needs)
-    (search needs)
-    (search needs)
-    returns-2
-    returns-3)
+    (λ c. rw (sym (c .before .starts .ensures) ∙ not-true (c .before .starts .result) (c .if1 .taken)))
+    (λ c. omega (arith, size (c .before)))
+    (λ c. omega (arith, size (c .before .before .before)))
+    (λ c. rw (begun (c .before .before .before), lt-ltb _ _ (c .before .if2 .taken)))
+    (λ c. rw (begun (c .before .before), le-ltb _ _ (c .if2 .left))))

@@ -6,19 +6,15 @@ use Rattle.frame.proofs.words.Statement.{statement}
 use Rattle.frame.proofs.words.Tie as tie
 
 abbrev Inv-loop : tie.InvT-loop
-Inv-loop bytes b ws₀ i₀ i-end ws i = Taken bytes b ws₀ ws i
+Inv-loop bytes count words₀ i₀ words i = Taken bytes count i words
 
 abbrev μ-loop : tie.MeasureT-loop
-μ-loop bytes b ws₀ i₀ i-end ws i = i-end - i
+μ-loop bytes count words₀ i₀ words i = count - i
 
 loop-again : tie.Need-loop-again Inv-loop μ-loop
-loop-again c = turn (c .before .before .loop .inv) (c .before .loop-test .taken) (c .word .ensures)
-
-same-length : tie.Need-same-length Inv-loop μ-loop
-same-length c = c .before .loop .inv .same
-
-returns : tie.Need-returns Inv-loop μ-loop
-returns c = end (c .before .loop .inv) (c .loop-test .left)
+loop-again c =
+    let inside = c .before in
+    turn (inside .before .loop .inv) (inside .loop-test .taken) (inside .before .before .before .before .pre .0) (c .word .ensures)
 
 pub words-spec : {M : Type 1} → statement M
 words-spec =
@@ -26,7 +22,8 @@ words-spec =
     (tie.spec
     Inv-loop
     μ-loop
-    (λ c. start _ _ _)
+    (search needs)
+    (λ c. start _ _ (c .no-words .ensures))
     (search needs)
     (search needs)
     (λ c κs. search needs)
@@ -35,5 +32,4 @@ words-spec =
     (search needs)
     (search needs)
     loop-again
-    same-length
-    returns)
+    (λ c. end (c .before .loop .inv) (c .loop-test .left)))

@@ -1,32 +1,41 @@
--- `frames::step` meets its contract: the bytes that are read are treated as the line's. Assumes nothing.
+-- `frames::step` meets its contract: by the line's answer. Assumes nothing.
 use mathlib.Core.Path.{sym}
-use native.Mathlib.Omega.{arith}
 use borrow.Author.Needs.{needs}
-use lib.Seq.{length-take-le}
-use Rattle.frames.proofs.Turns.{alike}
+use Rattle.table.proofs.Answers.{answer-as}
+use Rattle.frames.proofs.Keeping.{limits}
+use Rattle.frames.proofs.Turns.{refused, accepted}
 use Rattle.frames.proofs.step.Statement.{statement}
 use Rattle.frames.proofs.step.Tie as tie
 
-slice-aggregate-step-bytes : tie.Need-slice-aggregate-step-bytes
-slice-aggregate-step-bytes c =
-    let read = c .before .before .spelled in
-    sym (length-take-le _ (read .last .1 .0) (omega (arith, read .ensures .0)))
+take-requires : tie.Need-take-requires
+take-requires c κs =
+    let told = c .before in
+    let tested = told .before .before in
+    record {
+      ready = tested .before .before .pre;
+      accepted = sym (answer-as (told .enum-told .given .1) (tested .test-line .ensures));
+    }
 
 returns : tie.Need-returns
 returns c =
-    let stepped = c .before .before in
-    let read = stepped .before .before .before .before in
-    alike _ _ _ (stepped .step-bytes .result) (read .spelled .ensures .1) (stepped .step-bytes .ensures)
+    let told = c .before in
+    let tested = told .before .before in
+    refused _ _ _ (tested .test-line .ensures) (told .tested .given .1) (tested .before .before .pre)
+
+returns-2 : tie.Need-returns-2
+returns-2 c =
+    let took = c .before .before in
+    let told = took .before .before in
+    accepted _ _ _ (told .before .before .test-line .ensures) (told .enum-told .given .1) (took .take .ensures)
 
 pub step-spec : {M : Type 1} → statement M
 step-spec =
     tie.close
     (tie.spec
+    (λ c κs. limits (c .before .pre))
     (search needs)
     (search needs)
+    take-requires
+    returns
     (search needs)
-    (search needs)
-    slice-aggregate-step-bytes
-    (λ c κs. search needs)
-    (search needs)
-    returns)
+    returns-2)

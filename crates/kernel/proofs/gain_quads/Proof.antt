@@ -4,11 +4,11 @@ use Prim.Native.Nat.{_+_, _-_, _*_, _≤_, _<_}
 use native.Mathlib.Omega.{arith}
 use borrow.Author.Needs.{needs}
 use lib.ListN.{length}
-use Rattle.algebra.proofs.Words.{below}
-use Rattle.field.specs.Field.{p, p-pos, fromWords}
+use Rattle.field.specs.Field.{fromWords}
 use Rattle.table.specs.Gained.{Gained}
 use Rattle.table.proofs.Gaining.{none, turn}
 use Rattle.kernel.specs.Kernel.{fourWords}
+use Rattle.kernel.proofs.Quads.{small-quad}
 use Rattle.kernel.proofs.gain_quads.Statement.{statement}
 use Rattle.kernel.proofs.gain_quads.Tie as tie
 
@@ -31,30 +31,22 @@ module _ (c : tie.In-loop Inv-loop μ-loop) where
   room : 4 * (begin .args .from + at .loop .i) + 3 < length (at .loop .out)
   room = omega (arith, fits, at .loop .inv .1 .len)
 
-module _ (c : tie.After-get-arg Inv-loop μ-loop) where
-  abbrev turned : tie.In-loop Inv-loop μ-loop
-  turned = c .before .before .before .before .before
-
 step-four-requires : tie.Need-step-four-requires Inv-loop μ-loop
 step-four-requires c κs =
-    let pre = begin (turned (c .before)) .pre in
-    let small = below p _ (pre .0 .words-below) p-pos in (
-      pre .1 .0,
-      pre .1 .1,
-      pre .1 .2,
-      pre .1 .3,
-      record { small0 = small _; small1 = small _; small2 = small _; small3 = small _ },
-    )
+    let quad = c .before .before in
+    let pre = begin (quad .before) .pre in
+    (pre .1 .0, pre .1 .1, pre .1 .2, pre .1 .3, small-quad _ _ (pre .0 .words-below) (quad .quad .ensures))
 
 loop-again : tie.Need-loop-again Inv-loop μ-loop
 loop-again c =
     let put = c .before .before in
     let step = put .before .before in
     let get = step .before in
-    let test = turned (get .before) in (
+    let quad = get .before .before in
+    let test = quad .before in (
       omega (arith, test .loop-test .taken),
-      turn _ _ _ _ _ (at test .loop .inv .1) (fits test) _ refl _ _ (ap fromWords (get .get .ensures)) refl (step .step-four .ensures)
-          (put .put .ensures),
+      turn _ _ _ _ _ (at test .loop .inv .1) (fits test) _ refl _ _ (ap fromWords (get .get .ensures)) refl
+          (rw (quad .quad .ensures) at (step .step-four .ensures)) (put .put .ensures),
     )
 
 returns : tie.Need-returns Inv-loop μ-loop
@@ -70,26 +62,12 @@ gain-quads-spec =
     Inv-loop
     μ-loop
     (λ c. (omega arith, none _ _ _))
-    (search needs)
-    (search needs)
-    (search needs)
-    (search needs)
-    (search needs)
-    (search needs)
-    (search needs)
-    (search needs)
-    (search needs)
-    (search needs)
-    (search needs)
-    (search needs)
-    (search needs)
-    (search needs)
-    (search needs)
-    (λ c. omega (arith, fits (turned c)))
-    (λ c κs. room (turned c))
+    (λ c κs. omega (arith, c .loop-test .taken, begin c .pre .0 .there))
+    (λ c. omega (arith, fits (c .before .before)))
+    (λ c κs. room (c .before .before))
     step-four-requires
-    (λ c. omega (arith, fits (turned (c .before .before .before))))
-    (λ c κs. room (turned (c .before .before .before)))
+    (λ c. omega (arith, fits (c .before .before .before .before .before)))
+    (λ c κs. room (c .before .before .before .before .before))
     (search needs)
     (search needs)
     loop-again

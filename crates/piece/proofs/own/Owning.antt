@@ -10,6 +10,7 @@ use Rattle.algebra.specs.Ring.{Ops}
 use Rattle.algebra.proofs.Ring.{zero-mul}
 use Rattle.multilinear.specs.declared.Side.{Side}
 use Rattle.multilinear.specs.declared.Side.the-variants.{Prefix, Suffix}
+use Rattle.multilinear.specs.declared.Weight.{Weight}
 use Rattle.multilinear.specs.declared.Weight.the-variants.{Plain, Shifted, Next}
 use Rattle.multilinear.specs.Equality.{eqAt}
 use Rattle.multilinear.specs.Folds.{wordOf}
@@ -25,19 +26,22 @@ use Rattle.piece.specs.declared.Terms.{Terms}
 use Rattle.piece.specs.declared.own.Stand.{Stand}
 use Rattle.piece.specs.Inner.{Adds, ownBy, Apart, apart, Stands, rowBy}
 
+-- a weight that is 0
+pub no-own : (side : Side) (weight : Weight) (inner : ℕ) (zs : List Ext) (scale : Ext) (f : ℕ → Ext) (i : ℕ)
+    → ownWeight field weight zs scale ≡ field .zero → ownAt field side weight inner zs scale f i ≡ field .zero
+unfolding ownAt
+no-own side weight inner zs scale f i e =
+    ap (λ w. field .mul w (f (wordOf side inner (2 ^ length zs) i (ownRow weight (2 ^ length zs))))) e ∙ zero-mul field-ring _
+
 module _ {terms : Terms} {point piece out : List ℕ} {taken : ℕ} (a : Adds terms point taken piece out) where
   abbrev zs : List Ext
   zs = elements point 0 (terms .k)
 
-  -- a weight that is 0
   pub none-own : (side : Side) → ownWeight field (terms .weight) zs (fromWords (terms .scale)) ≡ field .zero
       → Gained 0 (terms .inner) (ownBy side terms point taken piece) out out
-  unfolding ownBy ownAt
+  unfolding ownBy
   none-own side e =
-      gained-as _ (nothing 0 (terms .inner) out (λ y h. reduced-at out (a .out-below) (0 + y)))
-      (λ y h. sym
-      (ap (λ w. field .mul w (base (placed taken piece (wordOf side (terms .inner) (2 ^ length zs) y (ownRow (terms .weight) (2 ^ length zs)))))) e
-      ∙ zero-mul field-ring _))
+      gained-as _ (nothing 0 (terms .inner) out (λ y h. reduced-at out (a .out-below) (0 + y))) (λ y h. sym (no-own side _ _ _ _ _ y e))
 
   module _ {row rows : ℕ} (h : row < rows) (r : rows ≡ 2 ^ terms .k) where
     pub row-there : Apart row rows (terms .inner)

@@ -6,15 +6,14 @@ use native.Mathlib.Omega.{arith}
 use mathlib.Core.List.{List}
 use lib.ListN.{length, getD}
 use Rattle.algebra.specs.Ring.{Ops}
-use Rattle.algebra.proofs.Ring.{mul-zero}
 use Rattle.multilinear.specs.Equality.{eqAt}
 use Rattle.field.specs.Field.{Ext, field, base, fromWords, Holds}
 use Rattle.field.specs.declared.Element.{Element}
-use Rattle.field.proofs.Laws.{field-ring, base-zero, read-as}
+use Rattle.field.proofs.Laws.{read-as}
 use Rattle.table.specs.Table.{elementAt, elements, putAt, placed}
 use Rattle.table.specs.Gained.{Gained}
 use Rattle.table.proofs.Gaining.{none, turn, gained-as, widened-to}
-use Rattle.table.proofs.Placed.{placed-before, placed-word, placed-after}
+use Rattle.table.proofs.Placed.{absent, placed-before, placed-word, placed-after}
 use Rattle.piece.specs.declared.Terms.{Terms}
 use Rattle.piece.specs.declared.own.Stand.{Stand}
 use Rattle.piece.specs.Inner.{Adds, Stands, reached, rowBy}
@@ -101,9 +100,6 @@ module _ {stand : Stand} {terms : Terms} {point piece out : List ℕ} {taken : �
       (λ y b l.
       let m : i ≤ y = rw q at b in
       absent _ (placed-after taken piece _ (from-end {i = y} (omega (arith, m, h)) l)))
-    where
-      absent : (t : ℕ) → placed taken piece t ≡ 0 → field .mul weight (base (placed taken piece t)) ≡ field .zero
-      absent t e = ap (λ n. field .mul weight (base n)) e ∙ ap (field .mul weight) base-zero ∙ mul-zero field-ring weight
 
   pub next : (weight : Element) {w w′ : List ℕ} {i : ℕ} → Done stand (fromWords weight) taken piece out first w i → i < end
       → {r x e : Element} {word : ℕ} → word ≡ stand .start + i * stand .stride - taken → Holds r (elementAt w i)

@@ -1,5 +1,5 @@
 //! Writes a fixed list of calls with the Rust's answers, for a replay where there
-//! is no Rust. crates/worked/README.md has the format.
+//! is no Rust. crates/replay/README.md has the format.
 //!
 //!     sample FILE
 

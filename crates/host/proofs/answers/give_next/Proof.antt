@@ -1,7 +1,7 @@
 -- `host::answers::give_next` meets its contract, by the case of the answer. Assumes nothing.
 use borrow.Author.Needs.{needs}
-use Rattle.host.specs.Host.{answered}
-use Rattle.host.proofs.Showing.{accepted, refused}
+use Rattle.host_values.specs.Host.{answered}
+use Rattle.host_values.proofs.Showing.{accepted, refused}
 use Rattle.host.proofs.answers.give_next.Statement.{statement}
 use Rattle.host.proofs.answers.give_next.Tie as tie
 

@@ -13,7 +13,7 @@ module _ (told : tie.After-enum-told) where
   begin = told .before .before .before .before .before .before .before .before .before
 
   passed : Tested (begin .args .table .now) (begin .args .point .now) (begin .args .scale) (begin .args .work .now) (begin .args .out .now)
-  passed = tested _ _ _ _ _ (answer-as (told .enum-told .given .1) (told .before .before .fold .ensures))
+  passed = tested _ _ _ _ _ (answer-as (told .enum-told .given .1) (told .before .before .of-fold .ensures))
 
 fill-requires : tie.Need-fill-requires
 fill-requires c κs = passed (c .before .before) .both
@@ -21,7 +21,7 @@ fill-requires c κs = passed (c .before .before) .both
 new-requires : tie.Need-new-requires
 new-requires c κs = passed (c .before .before .before .before .before) .given
 
-fold-requires : tie.Need-fold-requires-2
+fold-requires : tie.Need-fold-requires
 fold-requires c κs =
     let new = c .before in
     let told = new .before .before .before .before .before .before in
@@ -31,7 +31,7 @@ fold-requires c κs =
 returns : tie.Need-returns
 unfolding foldWork foldOut
 returns c =
-    rw (← answer-as (c .before .tested .given .1) (c .before .before .before .fold .ensures)) (refl, (simp kept, simp kept))
+    rw (← answer-as (c .before .tested .given .1) (c .before .before .before .of-fold .ensures)) (refl, (simp kept, simp kept))
 
 returns-2 : tie.Need-returns-2
 unfolding foldWork foldOut
@@ -41,8 +41,8 @@ returns-2 c =
     let fill = new .before .before .before in
     let variables = fill .before .before in
     let told = variables .before in
-    rw (← answer-as (told .enum-told .given .1) (told .before .before .fold .ensures))
-    (refl, (fill .fill .ensures, rw (new .new .ensures, variables .variables .ensures) at (fold .fold2 .ensures)))
+    rw (← answer-as (told .enum-told .given .1) (told .before .before .of-fold .ensures))
+    (refl, (fill .fill .ensures, rw (new .new .ensures, variables .variables .ensures) at (fold .fold .ensures)))
 
 pub compress-spec : {M : Type 1} → statement M
 compress-spec =

@@ -20,12 +20,12 @@ module _ (told : tie.After-enum-told) where
       × Reduced (begin .args .given)
       × Open (entries (begin .args .point .now)) (begin .args .out .now)
   accepted =
-      accumulate-tested _ _ _ _ _ (omega (arith, begin)) (answer-as (told .enum-told .given .1) (told .before .before .accumulate .ensures))
+      accumulate-tested _ _ _ _ _ (omega (arith, begin)) (answer-as (told .enum-told .given .1) (told .before .before .of-accumulate .ensures))
 
 fill-requires : tie.Need-fill-requires
 fill-requires c κs = accepted (c .before) .0
 
-accumulate-requires : tie.Need-accumulate-requires-2
+accumulate-requires : tie.Need-accumulate-requires
 accumulate-requires c κs =
     let fill = c .before .before .before .before in
     let a = accepted (fill .before .before) in
@@ -34,7 +34,7 @@ accumulate-requires c κs =
 returns : tie.Need-returns
 unfolding accumulateWork accumulateOut
 returns c =
-    rw (← answer-as (c .before .tested .given .1) (c .before .before .before .accumulate .ensures)) (refl, (simp kept, simp kept))
+    rw (← answer-as (c .before .tested .given .1) (c .before .before .before .of-accumulate .ensures)) (refl, (simp kept, simp kept))
 
 returns-2 : tie.Need-returns-2
 unfolding accumulateWork accumulateOut
@@ -42,8 +42,8 @@ returns-2 c =
     let sum = c .before .before in
     let fill = sum .before .before .before .before .before in
     let told = fill .before .before in
-    rw (← answer-as (told .enum-told .given .1) (told .before .before .accumulate .ensures))
-    (refl, (fill .fill .ensures, sum .accumulate2 .ensures ∙ gained _ _ _ _ (fill .fill .ensures) _ _))
+    rw (← answer-as (told .enum-told .given .1) (told .before .before .of-accumulate .ensures))
+    (refl, (fill .fill .ensures, sum .accumulate .ensures ∙ gained _ _ _ _ (fill .fill .ensures) _ _))
 
 pub accumulate-into-spec : {M : Type 1} → statement M
 accumulate-into-spec =

@@ -17,7 +17,7 @@ abbrev begin : tie.After-enum-told → tie.Start
 begin told = told .before .before .before .before .before .before
 
 accepted : (told : tie.After-enum-told) → Fillable (begin told .args .point .now) (begin told .args .scale) (begin told .args .work .now)
-accepted told = last-tested _ _ _ (answer-as (told .enum-told .given .1) (told .before .before .last .ensures))
+accepted told = last-tested _ _ _ (answer-as (told .enum-told .given .1) (told .before .before .of-last .ensures))
 
 fill-requires : tie.Need-fill-requires
 fill-requires c κs = accepted (c .before)
@@ -40,7 +40,7 @@ weight-requires c κs =
 
 returns : tie.Need-returns
 unfolding lastAnswer lastWork
-returns c = rw (← answer-as (c .before .tested .given .1) (c .before .before .before .last .ensures)) (simp kept, simp kept)
+returns c = rw (← answer-as (c .before .tested .given .1) (c .before .before .before .of-last .ensures)) (simp kept, simp kept)
 
 returns-2 : tie.Need-returns-2
 unfolding lastAnswer lastWork
@@ -49,7 +49,7 @@ returns-2 c =
     let fill = row .before .before .before .before .before in
     let told = fill .before .before in
     let own = last-weight _ _ _ _ (fill .fill .ensures) _ (row .before .rows .ensures) (row .weight .ensures) in
-    rw (← answer-as (told .enum-told .given .1) (told .before .before .last .ensures))
+    rw (← answer-as (told .enum-told .given .1) (told .before .before .of-last .ensures))
     (ap (given 0) (value-words _ own (c .value .ensures)), fill .fill .ensures)
 
 pub last-scalar-spec : {M : Type 1} → statement M

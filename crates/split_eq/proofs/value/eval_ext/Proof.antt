@@ -19,7 +19,7 @@ module _ (told : tie.After-enum-told) where
   accepted : Fillable (begin .args .point .now) (begin .args .scale) (begin .args .work .now)
       × WholeExt (entries (begin .args .point .now)) (begin .args .table .now)
   accepted =
-      ext-tested _ _ _ _ (omega (arith, begin)) (answer-as (told .enum-told .given .1) (told .before .before .ext .ensures))
+      ext-tested _ _ _ _ (omega (arith, begin)) (answer-as (told .enum-told .given .1) (told .before .before .of-ext .ensures))
 
 fill-requires : tie.Need-fill-requires
 fill-requires c κs = accepted (c .before) .0
@@ -29,7 +29,7 @@ scaled-value-ext-requires c κs = let a = accepted (c .before .before .before .b
 
 returns : tie.Need-returns
 unfolding scaledExtAnswer extWork
-returns c = rw (← answer-as (c .before .tested .given .1) (c .before .before .before .ext .ensures)) (simp kept, simp kept)
+returns c = rw (← answer-as (c .before .tested .given .1) (c .before .before .before .of-ext .ensures)) (simp kept, simp kept)
 
 returns-2 : tie.Need-returns-2
 unfolding scaledExtAnswer extWork
@@ -37,7 +37,7 @@ returns-2 c =
     let sum = c .before in
     let fill = sum .before .before .before in
     let told = fill .before .before in
-    rw (← answer-as (told .enum-told .given .1) (told .before .before .ext .ensures))
+    rw (← answer-as (told .enum-told .given .1) (told .before .before .of-ext .ensures))
     (ap (given 0) (value-words _ (sum .scaled-value-ext .ensures) (c .value .ensures)), fill .fill .ensures)
 
 pub eval-ext-spec : {M : Type 1} → statement M

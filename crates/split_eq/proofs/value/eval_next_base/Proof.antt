@@ -19,7 +19,7 @@ module _ (told : tie.After-enum-told) where
   accepted : Fillable (begin .args .point .now) (begin .args .scale) (begin .args .work .now)
       × Whole (entries (begin .args .point .now)) (begin .args .table .now)
   accepted =
-      base-tested _ _ _ _ (omega (arith, begin)) (answer-as (told .enum-told .given .1) (told .before .before .base .ensures))
+      base-tested _ _ _ _ (omega (arith, begin)) (answer-as (told .enum-told .given .1) (told .before .before .of-base .ensures))
 
 fill-requires : tie.Need-fill-requires
 fill-requires c κs = accepted (c .before) .0
@@ -32,7 +32,7 @@ scaled-next-value-requires c κs =
 
 returns : tie.Need-returns
 unfolding scaledNextBaseAnswer baseWork
-returns c = rw (← answer-as (c .before .tested .given .1) (c .before .before .before .base .ensures)) (simp kept, simp kept)
+returns c = rw (← answer-as (c .before .tested .given .1) (c .before .before .before .of-base .ensures)) (simp kept, simp kept)
 
 returns-2 : tie.Need-returns-2
 unfolding scaledNextBaseAnswer baseWork
@@ -40,7 +40,7 @@ returns-2 c =
     let sum = c .before in
     let fill = sum .before .before .before .before in
     let told = fill .before .before in
-    rw (← answer-as (told .enum-told .given .1) (told .before .before .base .ensures))
+    rw (← answer-as (told .enum-told .given .1) (told .before .before .of-base .ensures))
     (ap (given 0) (value-words _ (sum .scaled-next-value .ensures) (c .value .ensures)), fill .fill .ensures)
 
 pub eval-next-base-spec : {M : Type 1} → statement M

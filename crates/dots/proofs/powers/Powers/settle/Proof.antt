@@ -9,7 +9,7 @@ unfolding settledPowers
 returns c =
     let third = c .before in
     let second = third .before in
-    rw (c .settle .ensures, third .fold3 .ensures, second .fold2 .ensures, second .before .fold .ensures)
+    rw (c .settle .ensures, third .with-high3 .ensures, second .with-high2 .ensures, second .before .with-high .ensures)
 
 pub settle-spec : {M : Type 1} → statement M
 settle-spec =

@@ -1,7 +1,0 @@
--- `host::fixed::host_fix_prefix_var_mut_monomial` meets its contract. Assumes nothing.
-use borrow.Author.Needs.{needs}
-use Rattle.host.proofs.fixed.host_fix_prefix_var_mut_monomial.Statement.{statement}
-use Rattle.host.proofs.fixed.host_fix_prefix_var_mut_monomial.Tie as tie
-
-pub host-fix-prefix-var-mut-monomial-spec : {M : Type 1} → statement M
-host-fix-prefix-var-mut-monomial-spec = tie.close (tie.spec (λ c κs. search needs) (λ c κs. search needs) (search needs) (λ c. (search needs, cc)))

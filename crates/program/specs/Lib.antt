@@ -1,0 +1,4 @@
+pub mod Printed
+pub mod Blocks
+pub mod Printing
+pub mod Inner

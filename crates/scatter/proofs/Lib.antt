@@ -1,0 +1,2 @@
+mod Scattering
+mod WholeRows
