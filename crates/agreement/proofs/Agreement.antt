@@ -16,15 +16,16 @@ use Rattle.table.specs.Table.{tableWords, elementAt, entries, pointOf}
 use Rattle.table.proofs.Laws.{table-at, elements-length}
 use Rattle.point.specs.Point.{tableAnswer}
 use Rattle.poly.specs.Poly.{nextOut}
-use Rattle.split_eq.specs.Split.{foldAnswer, foldOut, baseAt, remains}
+use Rattle.split_tests.specs.SplitTests.{foldAnswer, remains}
+use Rattle.split_eq.specs.Split.{foldOut, baseAt}
 use Rattle.split_eq.proofs.FoldOutcomes.{tested}
 use Rattle.plan.specs.Plan.{rows, places, coordinatesOf, wordIn}
 use Rattle.plan.proofs.Joining.{given}
-use Rattle.session.specs.Session.{Args, planned, openAnswer}
-use Rattle.session.specs.Ledger.{Call, joined}
-use Rattle.session.specs.Demand3.{answers, after}
-use Rattle.session.proofs.Ledgers.{places-there, out-is}
-use Rattle.session.proofs.Demand3.{element-is}
+use Rattle.ledger.specs.Session.{Args, planned, openAnswer}
+use Rattle.ledger.specs.Ledger.{Call, joined}
+use Rattle.ledger.specs.Demand3.{answers, after}
+use Rattle.ledger.proofs.Ledgers.{places-there, out-is}
+use Rattle.ledger.proofs.Demand3.{element-is}
 use Rattle.agreement.specs.Agreement.{Agreement}
 use Rattle.agreement.proofs.NextTable.{next-words}
 

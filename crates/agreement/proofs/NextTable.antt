@@ -20,7 +20,8 @@ use Rattle.table.proofs.Laws.{table-length, table-at, elements-length}
 use Rattle.table.proofs.Tests.{unreduced-table, same}
 use Rattle.table.proofs.Powers.{power-bit, power-zeros}
 use Rattle.table.proofs.Verdicts.{Clear, clear}
-use Rattle.point.specs.Point.{pairTests, tableAnswer, partWords, evalNextAnswer}
+use Rattle.point.specs.Point.{tableAnswer}
+use Rattle.next.specs.Next.{pairTests, partWords, evalNextAnswer}
 use Rattle.poly.specs.Poly.{nextOut}
 use Rattle.poly.specs.Values.{extTests, evalExtAnswer}
 use Rattle.agreement.specs.Agreement.{doneOf, omegaOf}

@@ -10,14 +10,16 @@ use Rattle.multilinear.specs.declared.Weight.the-variants.{Next}
 use Rattle.field.specs.Field.{Ext, field, base, fromWords}
 use Rattle.table.specs.Table.{elementAt, entries}
 use Rattle.table.specs.Refusals.{evaluated}
-use Rattle.point.specs.Point.{tableAnswer, evalNextAnswer}
+use Rattle.point.specs.Point.{tableAnswer}
+use Rattle.next.specs.Next.{evalNextAnswer}
 use Rattle.poly.specs.Poly.{nextOut}
 use Rattle.poly.specs.Values.{evalExtAnswer}
-use Rattle.split_eq.specs.Split.{foldAnswer, foldOut}
+use Rattle.split_tests.specs.SplitTests.{foldAnswer}
+use Rattle.split_eq.specs.Split.{foldOut}
 use Rattle.plan.specs.Plan.{rows, places, wordIn}
-use Rattle.session.specs.Session.{Args, planned, openAnswer}
-use Rattle.session.specs.Ledger.{Call, joined}
-use Rattle.session.specs.Demand3.{answers, after}
+use Rattle.ledger.specs.Session.{Args, planned, openAnswer}
+use Rattle.ledger.specs.Ledger.{Call, joined}
+use Rattle.ledger.specs.Demand3.{answers, after}
 
 -- done and omega, as `eval_next` gives them: the second and the third element of its words
 abbrev pub doneOf : List ℕ → List ℕ → Ext

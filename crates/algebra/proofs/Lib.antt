@@ -4,6 +4,7 @@ pub mod Solve
 pub mod Reading
 pub mod Sums
 pub mod Residues
+pub mod Lowering
 pub mod Quartics
 pub mod Words
 pub mod Numbers

@@ -3,7 +3,7 @@
 use field::Element;
 use field::Value;
 use fixing::Remaining;
-use point::next::Next;
+use next::Next;
 use table::Evaluation;
 use table::Refusal;
 use table::Verdict;
@@ -20,8 +20,8 @@ pub fn call(operation: u32, a: &[u32], b: &[u32], number: u32, out: &mut [u32]) 
         1 => give(point::equality::equality_at_vertex(a, number as usize), out),
         2 => point::equality::equality_weights_msb(a, out).answer(),
         3 => point::equality::equality_weights_lsb(a, out).answer(),
-        4 => give(point::next::eval_eq(a, b), out),
-        5 => give_next(point::next::eval_next(a, b), out),
+        4 => give(next::eval_eq(a, b), out),
+        5 => give_next(next::eval_next(a, b), out),
         6 => give(point::select::eval_select(number, a), out),
         7 => new_from_point(a, b, out),
         8 => poly::new_next_from_point(a, out).answer(),

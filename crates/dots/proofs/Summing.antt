@@ -1,6 +1,6 @@
 -- The sums of `dot` before they are divided: what they are at the start, and what they gain. Assumes nothing.
 use mathlib.Core.Path.{_≡_, refl, sym, ap, _∙_}
-use Prim.Native.Nat.{ℕ, suc, _+_, _*_, _≤_, _<_}
+use Prim.Native.Nat.{ℕ, _+_, _*_, _≤_, _<_}
 use native.Mathlib.Numerals.{add-one}
 use native.Mathlib.Omega.{arith}
 use mathlib.Core.List.{List}
@@ -10,7 +10,7 @@ use Rattle.field.specs.Field.{p, p-pos}
 use Rattle.dots.specs.declared.halves.Halves.{Halves}
 use Rattle.dots.specs.declared.sums.Sums.{Sums}
 use Rattle.dots.specs.Dots.{Dots}
-use Rattle.dots.specs.Inner.{value, Within, Grown, coordinate, Gains, Kept, Summed, Room, mostGains}
+use Rattle.dots.specs.Inner.{value, Within, Grown, coordinate, Gains, Part, Kept, Summed, Room, mostGains}
 
 -- two words that are multiplied are below p
 pub both-below : {weights words : List ℕ} → Dots weights words → (j i : ℕ) → (getD weights j 0 < p) × (getD words i 0 < p)
@@ -75,28 +75,21 @@ module _ (weights words : List ℕ) (i : ℕ) {s : Sums} (d : Dots weights words
         at3 = kept-more (coordinate weights words 3) i (u .at3) n _ z e3 g3;
       }
 
--- the next products of coordinate k
+-- one of four words is there
+pub part-one : (weights words : List ℕ) (i : ℕ) → Part weights words i 4 → (n : ℕ) → n < 4 → Part weights words (i + n) 1
+part-one weights words i h n l = record { dots = h .dots; there = omega (arith, h .there) }
+
+-- what coordinate k gains
 module _ (weights words : List ℕ) (k i : ℕ) where
-  abbrev pub term : ℕ → ℕ
-  term n = getD weights (4 * i + k + 4 * n) 0 * getD words (i + n) 0
-
-  next : (n : ℕ) → coordinate weights words k (suc (i + n)) ≡ coordinate weights words k (i + n) + term n
-  unfolding coordinate
-  next n =
-      let q : 4 * (i + n) + k ≡ 4 * i + k + 4 * n = omega arith in
-      rw q refl
-
   pub next-one : {x : ℕ} → x ≡ getD weights (4 * i + k) 0 * getD words i 0 → Gains weights words k i 1 x
   unfolding coordinate
   next-one e = rw (add-one, e) refl
 
-  pub next-four : {x0 x1 x2 x3 : ℕ} → x0 ≡ getD weights (4 * i + k) 0 * getD words i 0 → x1 ≡ term 1 → x2 ≡ term 2 → x3 ≡ term 3
-      → Gains weights words k i 4 (x0 + x1 + x2 + x3)
-  next-four e0 e1 e2 e3 =
-      let q2 : i + 2 ≡ suc (i + 1) = omega arith in
-      let q3 : i + 3 ≡ suc (i + 2) = omega arith in
-      let q4 : i + 4 ≡ suc (i + 3) = omega arith in
-      let a2 : coordinate weights words k (i + 2) ≡ coordinate weights words k (i + 1) + term 1 = ap (coordinate weights words k) q2 ∙ next 1 in
-      let a3 : coordinate weights words k (i + 3) ≡ coordinate weights words k (i + 2) + term 2 = ap (coordinate weights words k) q3 ∙ next 2 in
-      let a4 : coordinate weights words k (i + 4) ≡ coordinate weights words k (i + 3) + term 3 = ap (coordinate weights words k) q4 ∙ next 3 in
-      omega (arith, next-one e0)
+  pub next-four : (x0 x1 x2 x3 : ℕ) → Gains weights words k i 1 x0 → Gains weights words k (i + 1) 1 x1 → Gains weights words k (i + 2) 1 x2
+      → Gains weights words k (i + 3) 1 x3 → Gains weights words k i 4 (x0 + x1 + x2 + x3)
+  next-four x0 x1 x2 x3 e0 e1 e2 e3 =
+      let q1 : i + 1 + 1 ≡ i + 2 = omega arith in
+      let q2 : i + 2 + 1 ≡ i + 3 = omega arith in
+      let q3 : i + 3 + 1 ≡ i + 4 = omega arith in
+      let to = coordinate weights words k in
+      omega (arith, e0, e1, e2, e3, ap to q1, ap to q2, ap to q3)

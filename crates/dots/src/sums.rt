@@ -3,8 +3,9 @@ use crate::halves::Halves;
 use field::Element;
 use field::word;
 ghost use mathlib.Core.Path.{_≡_};
-ghost use Prim.Native.Nat.{_+_, _*_, _/_, _<_};
+ghost use Prim.Native.Nat.{_+_, _-_, _*_, _/_, _<_, _≤_};
 ghost use lib.ListN.{length};
+ghost use Rattle.field.specs.Field.{p};
 ghost use Rattle.dots.specs.Dots.{Dots};
 ghost use Rattle.dots.specs.Inner.{Part, Summed, Room, Gains, settled};
 
@@ -94,7 +95,7 @@ impl Sums {
 // What coordinate k gains by word i.
 pub fn one(weights: &[u32], words: &[u32], i: usize, k: usize) -> u64
     requires { ⌜ Part (now weights) (now words) i 1 × (k < 4) ⌝ }
-    ensures { λ r. ⌜ Gains (now (weights .entry)) (now (words .entry)) k i 1 r ⌝ }
+    ensures { λ r. ⌜ Gains (now (weights .entry)) (now (words .entry)) k i 1 r × (r ≤ (p - 1) * (p - 1)) ⌝ }
 {
     word::wide(weights[4 * i + k], words[i])
 }
@@ -104,9 +105,8 @@ fn four(weights: &[u32], words: &[u32], i: usize, k: usize) -> u64
     requires { ⌜ Part (now weights) (now words) i 4 × (k < 4) ⌝ }
     ensures { λ r. ⌜ Gains (now (weights .entry)) (now (words .entry)) k i 4 r ⌝ }
 {
-    let b = 4 * i + k;
-    word::wide(weights[b], words[i])
-        + word::wide(weights[b + 4], words[i + 1])
-        + word::wide(weights[b + 8], words[i + 2])
-        + word::wide(weights[b + 12], words[i + 3])
+    one(weights, words, i, k)
+        + one(weights, words, i + 1, k)
+        + one(weights, words, i + 2, k)
+        + one(weights, words, i + 3, k)
 }

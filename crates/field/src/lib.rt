@@ -3,7 +3,6 @@
 //     c = [c0, c1, c2, c3]   is   c0 + c1 X + c2 X^2 + c3 X^3
 //
 // Words are below p. The operations ask that of their operands and keep it; `unreduced` is the test.
-pub mod multiplier;
 pub mod product;
 pub mod word;
 

@@ -5,7 +5,7 @@
 //
 // The second half keeps its words.
 use field::Element;
-use field::multiplier::Multiplier;
+use multiplier::Multiplier;
 use table::Refusal;
 use table::Verdict;
 ghost use mathlib.Core.Path.{_≡_};
@@ -15,7 +15,7 @@ ghost use lib.ListN.{length};
 ghost use Rattle.algebra.specs.Ring.{Ops, minus};
 ghost use Rattle.algebra.specs.Words.{unreduced};
 ghost use Rattle.field.specs.Field.{p, field, fromWords, Reduced, Holds};
-ghost use Rattle.field.specs.Inner.{Ready};
+ghost use Rattle.multiplier.specs.Ready.{Ready};
 ghost use Rattle.table.specs.Refusals.{answer, verdict};
 ghost use Rattle.fixing.specs.declared.Rule.the-variants.{Prefix, Suffix, Sum, Monomial};
 ghost use Rattle.fixing.specs.Fixing.{remainingOutcome, fixTests, fixAnswer, fixOut, sumAnswer, sumOut};

@@ -12,8 +12,8 @@ use Rattle.table.proofs.Outcomes.{left-as}
 use Rattle.table.proofs.Fronts.{front}
 use Rattle.frame.specs.declared.Kind.{Kind}
 use Rattle.frame.specs.declared.Frame.{Frame}
-use Rattle.frames.specs.declared.Reader.{Reader}
-use Rattle.frames.specs.Reader.{placeOf, inPlace, isDone, kindTests, lineAnswer}
+use Rattle.runs.specs.declared.Reader.{Reader}
+use Rattle.runs.specs.Reader.{placeOf, inPlace, isDone, kindTests, lineAnswer}
 
 -- 10, 12
 abbrev pub sharedTests : Reader → Kind → List Test

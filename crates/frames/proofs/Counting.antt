@@ -13,7 +13,7 @@ use borrow.Author.Tests.{eq-eqb, ne-eqb}
 use lib.Dec.{eqb}
 use Rattle.frame.specs.declared.Frame.{Frame}
 use Rattle.frame.specs.Frame.{wordsOf}
-use Rattle.frames.specs.Reader.{onceEach, onceMore}
+use Rattle.runs.specs.Reader.{onceEach, onceMore}
 use Rattle.frames.specs.Inner.{Counts}
 
 -- a frame's count, or all words that there is room for

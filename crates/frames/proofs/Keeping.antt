@@ -21,12 +21,12 @@ use Rattle.frame.specs.declared.Kind.{Kind}
 use Rattle.frame.specs.declared.Kind.the-variants.{Open, Coordinate, Words, Close, NoFrame}
 use Rattle.frame.specs.declared.Frame.{Frame}
 use Rattle.frame.specs.Frame.{wordsOf}
-use Rattle.frames.specs.declared.Phase.{Phase}
-use Rattle.frames.specs.declared.Phase.the-variants.{Done}
-use Rattle.frames.specs.declared.Reader.{Reader}
-use Rattle.frames.specs.Reader.{mostPlaces, lineAnswer, started, opened, noted, counted, taken, used, outBy, Ready}
+use Rattle.runs.specs.declared.Phase.{Phase}
+use Rattle.runs.specs.declared.Phase.the-variants.{Done}
+use Rattle.runs.specs.declared.Reader.{Reader}
+use Rattle.runs.specs.Reader.{mostPlaces, lineAnswer, started, opened, noted, counted, taken, used, outBy, Ready}
 use Rattle.frames.specs.Inner.{InLimits, Takes}
-use Rattle.frames.proofs.Accepted.{Opens, opens, notes, Feeds, feeds}
+use Rattle.runs.proofs.Accepted.{Opens, opens, notes, Feeds, feeds}
 
 -- before the first line, with any out of reduced words
 pub at-start : (out : List ℕ) → length out ≡ 4 * 2 ^ mostPlaces → unreduced p out ≡ false → Ready started out

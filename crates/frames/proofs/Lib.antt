@@ -1,5 +1,4 @@
 mod Counting
 mod Answers
-pub mod Accepted
 pub mod Keeping
 mod Turns

@@ -9,9 +9,9 @@ use Rattle.table.specs.declared.Verdict.the-variants.{Accepted, Refused}
 use Rattle.table.proofs.Answers.{answer-as}
 use Rattle.table.proofs.Outcomes.{leavesBy, left-as}
 use Rattle.frame.specs.declared.Frame.{Frame}
-use Rattle.frames.specs.declared.Reader.{Reader}
-use Rattle.frames.specs.declared.Turn.{Turn}
-use Rattle.frames.specs.Reader.{lineAnswer, taken, outBy, turn, turned, outAfter, Ready}
+use Rattle.runs.specs.declared.Reader.{Reader}
+use Rattle.runs.specs.declared.Turn.{Turn}
+use Rattle.runs.specs.Reader.{lineAnswer, taken, outBy, turn, turned, outAfter, Ready}
 
 -- a line of this frame gives t and leaves w
 abbrev pub Gives : Reader → Frame → List ℕ → Turn → List ℕ → Type 0

@@ -5,12 +5,10 @@ use mathlib.Core.List.{List}
 use lib.ListN.{length, take}
 use Rattle.plan.specs.Plan.{capacity}
 use Rattle.plan.specs.Sound.{Sound}
-use Rattle.session.specs.Session.{sessionOf}
 use Rattle.frame.specs.declared.Frame.{Frame}
 use Rattle.frame.specs.Frame.{wordsOf}
-use Rattle.frames.specs.declared.Phase.{Phase}
-use Rattle.frames.specs.declared.Reader.{Reader}
-use Rattle.frames.specs.Reader.{Ready, lineAnswer}
+use Rattle.runs.specs.declared.Reader.{Reader}
+use Rattle.runs.specs.Reader.{Ready, lineAnswer}
 
 -- the state alone
 pub record InLimits (r : Reader) : Type 0 where
@@ -27,8 +25,3 @@ pub record Counts (f : Frame) (n : ℕ) : Type 0 where
   pub words : take n (f .words) ≡ wordsOf f
   pub count : n ≡ length (wordsOf f)
   pub room : n ≤ length (f .words)
-
--- the same state in another phase, with so many words taken
-abbrev pub markedAs : Reader → Phase → ℕ → Reader
-markedAs r phase taken =
-    record { phase = phase; session = sessionOf (r .session .plan) taken (r .session .closed); given = r .given; beyond = r .beyond }

@@ -1,3 +1,1 @@
-pub mod Reader
-pub mod State
 pub mod Inner

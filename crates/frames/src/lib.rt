@@ -5,9 +5,13 @@
 use field::Element;
 use frame::Frame;
 use frame::Kind;
+use ledger::Session;
 use multilinear::Side;
 use multilinear::Weight;
-use session::Session;
+use runs::Phase;
+use runs::Place;
+use runs::Reader;
+use runs::Turn;
 use table::Refusal;
 use table::Verdict;
 ghost use mathlib.Core.Path.{_≡_};
@@ -15,36 +19,9 @@ ghost use Prim.Native.Nat.{_<_};
 ghost use lib.ListN.{replicate};
 ghost use Rattle.table.specs.Refusals.{answer, verdict, most};
 ghost use Rattle.frame.specs.declared.Kind.the-variants.{Words};
-ghost use Rattle.frames.specs.Reader.{placeOf, inPlace, isDone, onceMore, withCoordinate, sessionBy, onceEach, misplaced, openTests, coordinateTests, wordsTests, kindTests, lineAnswer, started, opened, noted, counted, taken, outBy, turn, turned, outAfter, Ready};
-ghost use Rattle.frames.specs.Inner.{InLimits, Takes, Counts, markedAs};
-
-pub enum Phase {
-    Start,
-    Points,
-    Words,
-    Done,
-}
-
-// What may come in a phase: an `01`; a `02`; a `03` or `04`.
-pub struct Place {
-    pub opening: bool,
-    pub coordinates: bool,
-    pub words: bool,
-}
-
-// The session as the frames give it, how often each coordinate was given (none, once, more), and whether one was beyond k.
-pub struct Reader {
-    pub phase: Phase,
-    pub session: Session,
-    pub given: [u32; table::MOST],
-    pub beyond: bool,
-}
-
-// An answer with the state beside it.
-pub struct Turn {
-    pub answer: Verdict,
-    pub reader: Reader,
-}
+ghost use Rattle.runs.specs.Reader.{placeOf, inPlace, isDone, onceMore, withCoordinate, sessionBy, onceEach, misplaced, openTests, coordinateTests, wordsTests, kindTests, lineAnswer, started, opened, noted, counted, taken, outBy, turn, turned, outAfter, Ready};
+ghost use Rattle.runs.specs.Inner.{markedAs};
+ghost use Rattle.frames.specs.Inner.{InLimits, Takes, Counts};
 
 // 3: the most variables of out.
 pub const MOST_PLACES: usize = 10;

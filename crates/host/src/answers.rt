@@ -1,8 +1,8 @@
 // The answer of the next weight's parts: 0 or the refusal's number, and their words in out.
-use point::next::Next;
+use next::Next;
 use table::Verdict;
 ghost use mathlib.Core.Path.{_≡_};
-ghost use Rattle.point.specs.Point.{nextOutcome};
+ghost use Rattle.next.specs.Next.{nextOutcome};
 ghost use Rattle.host_values.specs.Host.{answered, shown};
 
 // 0 and the words of carry, done and omega, or the refusal's number.

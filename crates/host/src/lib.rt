@@ -9,7 +9,8 @@ use field::Element;
 ghost use mathlib.Core.Path.{_≡_};
 ghost use mathlib.Core.Bool.{true, false};
 ghost use Rattle.point.specs.declared.equality.BitOrder.the-variants.{Msb, Lsb};
-ghost use Rattle.point.specs.Point.{vertexAnswer, tableAnswer, equalityOut, evalEqAnswer, evalNextAnswer, evalSelectAnswer};
+ghost use Rattle.point.specs.Point.{vertexAnswer, tableAnswer, equalityOut, evalSelectAnswer};
+ghost use Rattle.next.specs.Next.{evalEqAnswer, evalNextAnswer};
 ghost use Rattle.poly.specs.Poly.{newAnswer, newOut, nextOut};
 ghost use Rattle.eq_batch.specs.Batch.{batchAnswer, setOut, addOut};
 ghost use Rattle.host_values.specs.Host.{elementOf, answered, shown};
@@ -112,7 +113,7 @@ pub extern "C" fn host_eval_eq(point: &[u32], other: &[u32], out: &mut [u32; 4])
     ensures { λ r. ⌜ answered r (now (out .exit))
         ≡ shown (evalEqAnswer (now (point .entry)) (now (other .entry))) (now (out .entry)) ⌝ }
 {
-    host_values::answers::give(point::next::eval_eq(point, other), out)
+    host_values::answers::give(next::eval_eq(point, other), out)
 }
 
 #[no_mangle]
@@ -120,7 +121,7 @@ pub extern "C" fn host_eval_next(point: &[u32], other: &[u32], out: &mut [u32; 1
     ensures { λ r. ⌜ answered r (now (out .exit))
         ≡ shown (evalNextAnswer (now (point .entry)) (now (other .entry))) (now (out .entry)) ⌝ }
 {
-    answers::give_next(point::next::eval_next(point, other), out)
+    answers::give_next(next::eval_next(point, other), out)
 }
 
 #[no_mangle]

@@ -4,10 +4,10 @@
 //
 // Numbers that are no side, weight or truth value give 255: no refusal, and nothing is touched.
 use field::Element;
+use ledger::Session;
 use multilinear::Side;
 use multilinear::Weight;
 use plan::Plan;
-use session::Session;
 use session::Settled;
 
 // Words before the coordinates.

@@ -8,8 +8,9 @@ ghost use mathlib.Core.Path.{_≡_};
 ghost use Rattle.multilinear.specs.declared.Side.the-variants.{Prefix, Suffix};
 ghost use Rattle.multilinear.specs.declared.Weight.the-variants.{Plain, Shifted};
 ghost use Rattle.poly.specs.Values as poly;
-ghost use Rattle.split_eq.specs.Split.{scaledBaseAnswer, scaledExtAnswer, scaledNextBaseAnswer, lastAnswer, foldAnswer};
-ghost use Rattle.split_eq.specs.Split.{baseWork, extWork, lastWork, accumulateAnswer, accumulateWork, accumulateOut, foldWork, foldOut};
+ghost use Rattle.split_tests.specs.SplitTests.{foldAnswer, accumulateAnswer};
+ghost use Rattle.split_eq.specs.Split.{scaledBaseAnswer, scaledExtAnswer, scaledNextBaseAnswer, lastAnswer};
+ghost use Rattle.split_eq.specs.Split.{baseWork, extWork, lastWork, accumulateWork, accumulateOut, foldWork, foldOut};
 ghost use Rattle.host_values.specs.Host.{elementOf, answered, shown};
 
 #[no_mangle]

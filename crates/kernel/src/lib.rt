@@ -103,26 +103,34 @@ pub fn gain_quads(out: &mut [u32], from: usize, n: usize, words: &[u32], w: Weig
     }
 }
 
-// out[i] becomes w0 words[2i] + w1 words[2i + 1], for each i below n. It is not read.
+// out[i] becomes w0 words[2i] + w1 words[2i + 1], for each i below n. It is not read. The weights are multiplied by 2^32 before, and each
+// sum is divided by it.
 pub fn set_pairs(out: &mut [u32], n: usize, words: &[u32], w0: Element, w1: Element)
     requires { ⌜ Groups 2 0 n (now out) (now words) × (length (now out) ≡ 4 * n) ⌝ }
     requires { ⌜ Reduced w0 × Reduced w1 ⌝ }
     ensures { λ _. ⌜ now (out .exit) ≡ tableWords n (twoWords w0 w1 (now (words .entry))) ⌝ }
 {
+    let v0 = lowering::raise(w0);
+    let v1 = lowering::raise(w1);
     for i in 0..n {
-        let sum = steps::step_two(Element::zero(), w0, words[2 * i], w1, words[2 * i + 1]);
+        let sum = steps::lowered_two(v0, words[2 * i], v1, words[2 * i + 1]);
         table::put(out, i, sum);
     }
 }
 
-// out[i] becomes the sum of the weights times words[4i] to words[4i + 3], for each i below n. It is not read.
+// out[i] becomes the sum of the weights times words[4i] to words[4i + 3], for each i below n. It is not read. By division by 2^32, as
+// `set_pairs`.
 pub fn set_quads(out: &mut [u32], n: usize, words: &[u32], w: Weights)
     requires { ⌜ Groups 4 0 n (now out) (now words) × (length (now out) ≡ 4 * n) ⌝ }
     requires { ⌜ Reduced (w .w0) × Reduced (w .w1) × Reduced (w .w2) × Reduced (w .w3) ⌝ }
     ensures { λ _. ⌜ now (out .exit) ≡ tableWords n (fourWords w (now (words .entry))) ⌝ }
 {
+    let v0 = lowering::raise(w.w0);
+    let v1 = lowering::raise(w.w1);
+    let v2 = lowering::raise(w.w2);
+    let v3 = lowering::raise(w.w3);
     for i in 0..n {
-        let sum = steps::step_four(Element::zero(), w.w0, w.w1, w.w2, w.w3, quad(words, i));
+        let sum = steps::lowered_four(v0, v1, v2, v3, quad(words, i));
         table::put(out, i, sum);
     }
 }

@@ -4,9 +4,10 @@ use Prim.Native.Nat.{ℕ, zero, suc}
 use mathlib.Core.Bool.{true}
 use mathlib.Core.List.{List}
 use Rattle.table.specs.Refusals.{answer, leaves}
-use Rattle.session.specs.Session.{State, state, settled, sessionOf, feedAnswer, fed, feedLeaves, feedStep}
-use Rattle.session.specs.Session.{closeAnswer, closeLeaves, closeStep}
-use Rattle.session.specs.declared.Session.{Session}
+use Rattle.ledger.specs.Session.{State, state, sessionOf, feedAnswer, fed, feedLeaves, feedStep}
+use Rattle.ledger.specs.Session.{closeAnswer, closeLeaves, closeStep}
+use Rattle.ledger.specs.declared.Session.{Session}
+use Rattle.session.specs.Settled.{settled}
 use Rattle.session.specs.declared.Settled.{Settled}
 
 -- the session as it was with the one field that is stored: feed's words taken, and close's mark, of the session that the core gives

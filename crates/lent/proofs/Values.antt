@@ -22,11 +22,11 @@ use denote.Enum.Laws as enum
 use Rattle.table.specs.declared.Verdict.{Verdict}
 use Rattle.table.proofs.Verdict as verdict
 use Rattle.table.proofs.Verdict.Laws as verdict′
-use Rattle.session.specs.Session.{sessionOf}
-use Rattle.session.specs.declared.Session.{Session}
+use Rattle.ledger.specs.Session.{sessionOf}
+use Rattle.ledger.specs.declared.Session.{Session}
 use Rattle.session.specs.declared.Settled.{Settled}
-use Rattle.session.proofs.Session as session
-use Rattle.session.proofs.Session.Laws as session′
+use Rattle.ledger.proofs.Session as session
+use Rattle.ledger.proofs.Session.Laws as session′
 use Rattle.session.proofs.Settled as settled
 use Rattle.session.proofs.Settled.Laws as settled′
 

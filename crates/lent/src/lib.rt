@@ -1,10 +1,11 @@
 // The session lent: the same calls, which leave the session where it stands.
-use session::Session;
+use ledger::Session;
 use session::Settled;
 use table::Verdict;
 ghost use mathlib.Core.Path.{_≡_};
 ghost use Rattle.table.specs.Refusals.{answer};
-ghost use Rattle.session.specs.Session.{state, settled, feedStep, closeStep};
+ghost use Rattle.ledger.specs.Session.{state, feedStep, closeStep};
+ghost use Rattle.session.specs.Settled.{settled};
 
 // Adds scale weight word to each word's place, and counts the words.
 pub fn feed(s: &mut Session, piece: &[u32], out: &mut [u32]) -> Verdict

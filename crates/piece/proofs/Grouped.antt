@@ -16,13 +16,14 @@ use Rattle.table.proofs.Laws.{table-ext}
 use Rattle.kernel.specs.declared.Weights.{Weights}
 use Rattle.kernel.specs.Kernel.{Groups, twoWords, fourWords}
 use Rattle.weigh.specs.Weigh.{Block}
+use Rattle.moved.specs.Weighed.{weightOf, Weighed}
+use Rattle.moved.proofs.Moving.{skip-small}
+use Rattle.moved.proofs.PlaceSums.{row-sum, two-words, four-words}
 use Rattle.plan.specs.declared.Plan.{Plan}
 use Rattle.plan.specs.Plan.{rows, places, coordinatesOf, placeOf, foldOf}
 use Rattle.plan.specs.Sound.{Fills}
 use Rattle.plan.proofs.Sections.{all-words}
-use Rattle.piece.specs.Inner.{Unowned, weightOf, Weighed}
-use Rattle.piece.proofs.PlaceSums.{row-sum, two-words, four-words}
-use Rattle.piece.proofs.PlaceByPlace.{skip-small}
+use Rattle.piece.specs.Inner.{Unowned}
 use Rattle.piece.proofs.own.Owning.{no-own}
 
 module _ {plan : Plan} {table out : List ℕ} (f : Fills plan table out) {n : ℕ} (q : n ≡ places plan) where

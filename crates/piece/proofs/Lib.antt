@@ -1,7 +1,4 @@
 mod Adding
-mod RowByRow
-mod PlaceSums
-mod PlaceByPlace
 pub mod Fronts
 mod BySection
 mod Grouped

@@ -19,7 +19,7 @@ pub fn by_groups(plan: Plan, table: &[u32], out: &mut [u32])
     let scale = plan.scale;
     let coordinates = plan.coordinates;
     let block = weigh::small_block_of(&coordinates, 0, plan.k, scale);
-    let weights = crate::places::weights_of(&block, crate::skip_of(weight));
+    let weights = moved::weights_of(&block, moved::skip_of(weight));
     let n = table::rows(plan.n - plan.k);
     if plan.k == 1 {
         kernel::set_pairs(out, n, table, weights.w0, weights.w1);

@@ -1,11 +1,12 @@
 // The row that has a weight of its own beside its eq weight: its words in the piece, by that weight.
-use crate::Terms;
+use moved::Terms;
 use multilinear::Side;
 use multilinear::Weight;
 ghost use mathlib.Core.Path.{_≡_};
 ghost use Prim.Native.Nat.{_+_, _-_, _*_, _/_, _^_, _<_, min};
 ghost use Rattle.table.specs.Gained.{Gained};
-ghost use Rattle.piece.specs.Inner.{Adds, ownBy, Stands, rowBy, Apart, apart, reached};
+ghost use Rattle.moved.specs.Moved.{Adds};
+ghost use Rattle.piece.specs.Inner.{ownBy, Stands, rowBy, Apart, apart, reached};
 
 // Where the words of a row stand in the table: that of place 0, and how far apart they are.
 pub struct Stand {

@@ -4,18 +4,12 @@ use Prim.Native.Nat.{ℕ, zero, suc, _+_, _-_, _*_, _^_, _≤_, _<_}
 use mathlib.Core.List.{List}
 use lib.ListN.{length}
 use Rattle.algebra.specs.Ring.{Ops, minus}
-use Rattle.field.specs.Field.{Ext, field, toWords, fromWords, Reduced, Holds}
+use Rattle.field.specs.Field.{Ext, field, toWords, Reduced}
 use Rattle.field.specs.declared.Element.{Element}
 use Rattle.table.specs.Table.{getAt, elementAt}
 use Rattle.point.specs.declared.equality.BitOrder.{BitOrder}
 use Rattle.point.specs.Coordinates.{Coordinates}
 use Rattle.point.specs.declared.equality.BitOrder.the-variants.{Msb, Lsb}
-
--- two coordinates, and their product
-pub record Paired (s t both : Element) : Type 0 where
-  pub first : Reduced s
-  pub second : Reduced t
-  pub product : Holds both (field .mul (fromWords s) (fromWords t))
 
 -- the coordinate that doubles the table at step i of k
 abbrev pub entering : BitOrder → ℕ → ℕ → ℕ

@@ -1,6 +1,6 @@
 // Equality: at one vertex, and the table of every row.
 use field::Element;
-use field::multiplier::Multiplier;
+use multiplier::Multiplier;
 use table::Evaluation;
 use table::Refusal;
 use table::Verdict;

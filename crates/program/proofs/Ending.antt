@@ -5,10 +5,10 @@ use Prim.Native.Nat.{ℕ, zero, suc, _+_, _≤_}
 use native.Mathlib.Omega.{arith}
 use mathlib.Core.List.{List, [], _∷_, _++_, append-nil}
 use lib.ListN.{length, take}
-use Rattle.frames.specs.Reader.{isDone}
+use Rattle.runs.specs.Reader.{isDone}
 use Rattle.program.specs.declared.Program.{Program}
 use Rattle.program.specs.declared.Fed.{Fed}
-use Rattle.frames.specs.State.{State}
+use Rattle.runs.specs.State.{State}
 use Rattle.program.specs.Printed.{endLine}
 use Rattle.frame.specs.Frame.{mostLine}
 use Rattle.program.specs.Blocks.{mostText, Feeding, lineEnded, closing, endText, feedingOf, Going}

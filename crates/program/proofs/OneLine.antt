@@ -14,9 +14,9 @@ use Rattle.frame.specs.declared.Kind.{Kind}
 use Rattle.frame.specs.declared.Kind.the-variants as kind
 use Rattle.frame.specs.declared.Frame.{Frame}
 use Rattle.frame.specs.Frame.{frameOf}
-use Rattle.frames.specs.declared.Reader.{Reader}
-use Rattle.frames.specs.declared.Turn.{Turn}
-use Rattle.frames.specs.Reader.{mostPlaces, isDone, lineAnswer, taken, outBy, turn, turned, outAfter, Ready}
+use Rattle.runs.specs.declared.Reader.{Reader}
+use Rattle.runs.specs.declared.Turn.{Turn}
+use Rattle.runs.specs.Reader.{mostPlaces, isDone, lineAnswer, taken, outBy, turn, turned, outAfter, Ready}
 use Rattle.program.specs.declared.Program.{Program}
 use Rattle.program.specs.declared.Fed.{Fed}
 use Rattle.program.specs.Printed.{outText, unlessRefused, refusalLine}

@@ -9,9 +9,9 @@ use lib.Seq.{take-append-add}
 use Rattle.frame.specs.declared.Frame.{Frame}
 use Rattle.frame.specs.Frame.{frameOf}
 use Rattle.frame.proofs.Decoding.{cut-alike}
-use Rattle.frames.specs.declared.Reader.{Reader}
-use Rattle.frames.specs.Reader.{lineAnswer, turned, outAfter}
-use Rattle.frames.specs.State.{State, numberOf, step}
+use Rattle.runs.specs.declared.Reader.{Reader}
+use Rattle.runs.specs.Reader.{lineAnswer, turned, outAfter}
+use Rattle.runs.specs.State.{State, numberOf, step}
 use Rattle.program.specs.Printed.{lineFeed, endedFrom, restFrom, lastLine, linesOf, start, outText, unlessRefused, saysFrom, endLine, printed, told}
 use Rattle.frame.specs.Frame.{mostLine}
 use Rattle.program.specs.Blocks.{Feeding, begun, isRefused, byteStep, byteText, fed, said, endText}

@@ -5,7 +5,7 @@ use native.Mathlib.Omega.{arith}
 use mathlib.Core.List.{List}
 use lib.ListN.{length, replicate}
 use Rattle.frame.specs.Frame.{mostLine}
-use Rattle.frames.specs.Reader.{mostPlaces}
+use Rattle.runs.specs.Reader.{mostPlaces}
 use Rattle.frames.proofs.Keeping.{at-start-zeros}
 use Rattle.program.specs.Blocks.{mostText, programStart, Going}
 

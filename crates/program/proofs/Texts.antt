@@ -11,8 +11,8 @@ use borrow.Rule.Slice.PartMut.{midOf, putMid, mid-len, same-len-mid}
 use Rattle.frame.specs.Hex.{byteDigits, wordDigits}
 use Rattle.plan.specs.Plan.{places}
 use Rattle.frame.proofs.Grammar.{digits-length}
-use Rattle.frames.specs.declared.Reader.{Reader}
-use Rattle.frames.specs.Reader.{mostPlaces, isDone, Ready}
+use Rattle.runs.specs.declared.Reader.{Reader}
+use Rattle.runs.specs.Reader.{mostPlaces, isDone, Ready}
 use Rattle.program.specs.Printed.{lineFeed, outLine, outLines, refusalLine, endLine}
 use Rattle.program.specs.Inner.{Behind, doneText}
 

@@ -6,8 +6,8 @@ use mathlib.Core.List.{List, [], _∷_, _++_}
 use lib.Dec.{eqb}
 use lib.ListN.{length, take}
 use Rattle.frame.specs.Frame.{frameOf, mostLine}
-use Rattle.frames.specs.Reader.{started, Ready}
-use Rattle.frames.specs.State.{State, numberOf, step}
+use Rattle.runs.specs.Reader.{started, Ready}
+use Rattle.runs.specs.State.{State, numberOf, step}
 use Rattle.program.specs.declared.Program.{Program}
 use Rattle.program.specs.Printed.{lineFeed, start, outText, unlessRefused, endLine}
 

@@ -6,8 +6,8 @@ use mathlib.Core.List.{List, [], _∷_, _++_}
 use lib.Dec.{eqb}
 use lib.ListN.{length, take}
 use Rattle.plan.specs.Plan.{places}
-use Rattle.frames.specs.declared.Reader.{Reader}
-use Rattle.frames.specs.Reader.{isDone}
+use Rattle.runs.specs.declared.Reader.{Reader}
+use Rattle.runs.specs.Reader.{isDone}
 use Rattle.program.specs.declared.Program.{Program}
 use Rattle.program.specs.declared.Fed.{Fed}
 use Rattle.program.specs.Printed.{lineFeed, outLines}

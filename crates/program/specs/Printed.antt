@@ -9,9 +9,9 @@ use Rattle.frame.specs.declared.Kind.{Kind}
 use Rattle.frame.specs.declared.Kind.the-variants as kind
 use Rattle.frame.specs.Hex.{byteDigits, wordDigits}
 use Rattle.frame.specs.Frame.{frameOf}
-use Rattle.frames.specs.declared.Reader.{Reader}
-use Rattle.frames.specs.Reader.{mostPlaces, isDone, started}
-use Rattle.frames.specs.State.{State, numberOf, step}
+use Rattle.runs.specs.declared.Reader.{Reader}
+use Rattle.runs.specs.Reader.{mostPlaces, isDone, started}
+use Rattle.runs.specs.State.{State, numberOf, step}
 
 abbrev pub lineFeed : ℕ
 lineFeed = 10

@@ -1,14 +1,14 @@
 // The program `foldframes` but for its reads and its writes: it is fed the input in blocks, cut anywhere, and gives text to print.
 //
 //     block --> | bytes of a line that has not ended | lines that end --> one step each --> text
-use frames::Reader;
+use runs::Reader;
 use table::Refusal;
 use table::Verdict;
 ghost use mathlib.Core.Path.{_≡_};
 ghost use mathlib.Core.Bool.{false};
 ghost use Prim.Native.Nat.{_+_, _≤_};
 ghost use lib.ListN.{length, take};
-ghost use Rattle.frames.specs.Reader.{Ready};
+ghost use Rattle.runs.specs.Reader.{Ready};
 ghost use Rattle.program.specs.Printed.{endLine};
 ghost use Rattle.program.specs.Blocks.{mostText, programStart, lineEnded, fed, said, endText, feedingOf, Going};
 ghost use Rattle.program.specs.Inner.{Behind, Goes, withUsed, endedAs, textOf, doneText};

@@ -5,8 +5,8 @@ use Prim.Native.Nat.{ℕ, _+_}
 use mathlib.Core.List.{List, [], append-nil}
 use lib.ListN.{length, length-append}
 use Rattle.frame.specs.Frame.{wordsOf}
-use Rattle.frames.specs.Reader.{started}
-use Rattle.frames.specs.State.{State}
+use Rattle.runs.specs.Reader.{started}
+use Rattle.runs.specs.State.{State}
 use Rattle.runs.specs.Runs.{start, wordsBy, isSettled}
 use Rattle.runs.proofs.Steps.{never, Keeps}
 

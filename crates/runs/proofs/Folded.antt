@@ -16,10 +16,10 @@ use Rattle.plan.proofs.Joining as plan
 use Rattle.frame.specs.declared.Kind.the-variants as kind
 use Rattle.frame.specs.declared.Frame.{Frame}
 use Rattle.frame.specs.Frame.{wordsOf}
-use Rattle.frames.specs.declared.Phase.the-variants as phase
-use Rattle.frames.specs.Reader.{mostPlaces, used, started, opened, withCoordinate, outBy}
-use Rattle.frames.proofs.Accepted.{Opens}
-use Rattle.frames.specs.State.{State}
+use Rattle.runs.specs.declared.Phase.the-variants as phase
+use Rattle.runs.specs.Reader.{mostPlaces, used, started, opened, withCoordinate, outBy}
+use Rattle.runs.proofs.Accepted.{Opens}
+use Rattle.runs.specs.State.{State}
 use Rattle.runs.specs.Runs.{start, wordsBy, isOpened, isSettled}
 use Rattle.runs.proofs.Steps.{never, Keeps}
 use Rattle.runs.proofs.Counted.{Counted, counted-start, counted-keeps}

@@ -18,11 +18,11 @@ use Rattle.frame.specs.declared.Frame.{Frame}
 use Rattle.frame.specs.Frame.{wordsOf}
 use Rattle.frame.specs.declared.Kind.the-variants as kind
 use Rattle.frame.proofs.Glyphs.{and-both}
-use Rattle.frames.specs.declared.Phase.{Phase}
-use Rattle.frames.specs.declared.Phase.the-variants as phase
-use Rattle.frames.specs.declared.Reader.{Reader}
-use Rattle.frames.specs.Reader.{onceEach, onceMore, started, opened}
-use Rattle.frames.specs.Inner.{markedAs}
+use Rattle.runs.specs.declared.Phase.{Phase}
+use Rattle.runs.specs.declared.Phase.the-variants as phase
+use Rattle.runs.specs.declared.Reader.{Reader}
+use Rattle.runs.specs.Reader.{onceEach, onceMore, started, opened}
+use Rattle.runs.specs.Inner.{markedAs}
 use Rattle.runs.specs.Runs.{elementBy, isOpened, isSettled}
 use Rattle.runs.proofs.Steps.{never, Placed, Keeps, put, strayed}
 

@@ -3,8 +3,8 @@ use mathlib.Core.Path.{_≡_, refl, sym, ap}
 use mathlib.Core.Bool.{true, false}
 use Prim.Native.Nat.{ℕ}
 use mathlib.Core.List.{List, [], _∷_, append-nil}
-use Rattle.frames.specs.Reader.{started}
-use Rattle.frames.specs.State.{State}
+use Rattle.runs.specs.Reader.{started}
+use Rattle.runs.specs.State.{State}
 use Rattle.runs.specs.Runs.{start, Opening, heldBy, openingBy, isOpened}
 use Rattle.runs.proofs.Steps.{never, Keeps}
 

@@ -3,7 +3,7 @@ use mathlib.Core.Path.{_≡_, refl}
 use Prim.Native.Nat.{ℕ, _*_, _^_}
 use mathlib.Core.List.{List, []}
 use lib.ListN.{length}
-use Rattle.frames.specs.Reader.{mostPlaces}
+use Rattle.runs.specs.Reader.{mostPlaces}
 use Rattle.runs.specs.Runs.{start, after, openingBy, wordsBy, elementBy, openings, joined, given, Runs}
 use Rattle.runs.proofs.Steps.{lines-keep}
 use Rattle.runs.proofs.Opened.{Opened, opened-start, opened-keeps}

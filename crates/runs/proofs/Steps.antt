@@ -11,18 +11,18 @@ use Rattle.field.specs.declared.Element.{Element}
 use Rattle.table.specs.Refusals.{_gives_, leaves}
 use Rattle.table.proofs.Tests.{or-none}
 use Rattle.table.proofs.Verdicts.{Clear}
-use Rattle.session.specs.declared.Session.{Session}
+use Rattle.ledger.specs.declared.Session.{Session}
 use Rattle.frame.specs.declared.Kind.{Kind}
 use Rattle.frame.specs.declared.Kind.the-variants as kind
 use Rattle.frame.specs.declared.Frame.{Frame}
 use Rattle.frame.specs.Frame.{frameOf}
 use Rattle.frame.proofs.Decoding.{four-words}
-use Rattle.frames.specs.declared.Phase.{Phase}
-use Rattle.frames.specs.declared.Phase.the-variants as phase
-use Rattle.frames.specs.declared.Reader.{Reader}
-use Rattle.frames.specs.Reader.{placeOf, inPlace, isDone, onceEach, kindTests, lineAnswer, opened, withCoordinate, onceMore, counted, done, taken, outBy, turned, outAfter}
-use Rattle.frames.proofs.Accepted.{Opens, open-clear, line-clear}
-use Rattle.frames.specs.State.{State, step}
+use Rattle.runs.specs.declared.Phase.{Phase}
+use Rattle.runs.specs.declared.Phase.the-variants as phase
+use Rattle.runs.specs.declared.Reader.{Reader}
+use Rattle.runs.specs.Reader.{placeOf, inPlace, isDone, onceEach, kindTests, lineAnswer, opened, withCoordinate, onceMore, counted, done, taken, outBy, turned, outAfter}
+use Rattle.runs.proofs.Accepted.{Opens, open-clear, line-clear}
+use Rattle.runs.specs.State.{State, step}
 use Rattle.runs.specs.Runs.{after, isOpened, isSettled}
 
 pub never {ℓ} : {A : Type ℓ} → true ≡ false → A

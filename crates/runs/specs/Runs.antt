@@ -11,16 +11,16 @@ use Rattle.field.specs.declared.Element.{Element}
 use Rattle.table.specs.Table.{getAt}
 use Rattle.table.specs.Refusals.{leaves}
 use Rattle.plan.specs.Plan.{foldOf}
-use Rattle.session.specs.declared.Session.{Session}
+use Rattle.ledger.specs.declared.Session.{Session}
 use Rattle.frame.specs.declared.Kind.{Kind}
 use Rattle.frame.specs.declared.Kind.the-variants as kind
 use Rattle.frame.specs.declared.Frame.{Frame}
 use Rattle.frame.specs.Frame.{frameOf, wordsOf}
-use Rattle.frames.specs.declared.Phase.{Phase}
-use Rattle.frames.specs.declared.Phase.the-variants as phase
-use Rattle.frames.specs.declared.Reader.{Reader}
-use Rattle.frames.specs.Reader.{started, used, mostPlaces}
-use Rattle.frames.specs.State.{State, numberOf, step}
+use Rattle.runs.specs.declared.Phase.{Phase}
+use Rattle.runs.specs.declared.Phase.the-variants as phase
+use Rattle.runs.specs.declared.Reader.{Reader}
+use Rattle.runs.specs.Reader.{started, used, mostPlaces}
+use Rattle.runs.specs.State.{State, numberOf, step}
 
 -- before the first line, out is anything of 2^10 elements
 abbrev pub start : List ℕ → State

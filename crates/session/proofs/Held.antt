@@ -13,9 +13,9 @@ use Rattle.table.specs.Refusals.{Test, _gives_, verdict, most}
 use Rattle.table.specs.Inner.{onward}
 use Rattle.table.proofs.Verdicts.{gone-through}
 use Rattle.plan.specs.Plan.{capacity}
-use Rattle.session.specs.Session.{State, feedAnswer, closeAnswer}
-use Rattle.session.specs.Inner.{readyTests}
-use Rattle.session.proofs.Outcomes.{left-test}
+use Rattle.ledger.specs.Session.{State, feedAnswer, closeAnswer}
+use Rattle.ledger.specs.Inner.{readyTests}
+use Rattle.ledger.proofs.Left.{left-test}
 
 -- tests behind one that holds do not count
 behind : (b : Bool) (n : ℕ) (ts us : List Test) → (b ≡ false → verdict ts ≡ verdict us) → verdict (b gives n ∷ ts) ≡ verdict (b gives n ∷ us)

@@ -7,7 +7,7 @@ use mathlib.Core.List.{List}
 use lib.ListN.{length, getD, drop, drop-of-length-le}
 use lib.Seq.{drop-cons}
 use borrow.Author.Tests.{eq-eqb, ne-eqb}
-use Rattle.session.specs.Session.{nonzero}
+use Rattle.ledger.specs.Session.{nonzero}
 
 module _ (ws : List ℕ) (i : ℕ) where
   pub found : i < length ws → (getD ws i 0 ≡ 0 → ⊥) → nonzero (drop i ws) ≡ true

@@ -1,4 +1,1 @@
-pub mod Session
-pub mod Ledger
-pub mod Demand3
-pub mod Inner
+pub mod Settled

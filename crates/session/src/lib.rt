@@ -1,8 +1,8 @@
 // The fold session: a table arrives in pieces, and each is folded as it comes.
 use field::Element;
+use ledger::Session;
 use multilinear::Side;
 use multilinear::Weight;
-use plan::Plan;
 use table::Refusal;
 use table::Verdict;
 ghost use mathlib.Core.Path.{_≡_};
@@ -12,15 +12,9 @@ ghost use lib.Dec.{ltb};
 ghost use lib.ListN.{drop};
 ghost use Rattle.table.specs.Refusals.{answer, verdict, most};
 ghost use Rattle.table.specs.Inner.{onward};
-ghost use Rattle.session.specs.Session.{args, noSession, nonzero, openTests, state, settled, openStep, feedAnswer, feedStep, closeAnswer, closeStep};
-ghost use Rattle.session.specs.Inner.{readyTests};
-
-// A plan, and how far its table is taken.
-pub struct Session {
-    pub plan: Plan,
-    pub taken: usize,
-    pub closed: bool,
-}
+ghost use Rattle.ledger.specs.Session.{args, noSession, nonzero, openTests, state, openStep, feedAnswer, feedStep, closeAnswer, closeStep};
+ghost use Rattle.ledger.specs.Inner.{readyTests};
+ghost use Rattle.session.specs.Settled.{settled};
 
 // An answer with the session beside it.
 pub struct Settled {

@@ -19,7 +19,8 @@ use Rattle.table.proofs.Tests.{whole, same}
 use Rattle.table.proofs.Verdicts.{clear}
 use Rattle.point.proofs.Coordinates.{coordinates}
 use Rattle.plan.specs.Sound.{Fills}
-use Rattle.split_eq.specs.Split.{foldAnswer, foldPlan, remains}
+use Rattle.split_tests.specs.SplitTests.{foldAnswer, remains}
+use Rattle.split_eq.specs.Split.{foldPlan}
 use Rattle.split_eq.proofs.Tested.{Fillable, sized}
 
 -- zeros behind the coordinates

@@ -19,7 +19,7 @@ use Rattle.point.proofs.Coordinates.{coordinates}
 use Rattle.weigh.specs.Weigh.{Whole, WholeExt}
 use Rattle.work.specs.Work.{first, others, workDiffers}
 use Rattle.work.specs.Inner.{BothTables, Open}
-use Rattle.split_eq.specs.Split.{baseAnswer, extAnswer, lastTests, accumulateAnswer}
+use Rattle.split_tests.specs.SplitTests.{baseAnswer, extAnswer, lastTests, accumulateAnswer}
 
 -- 1 and 4 do not hold: the work buffer has just both tables' words
 pub sized : (work : List ℕ) (k : ℕ) → splits work ≡ false → workDiffers work k ≡ false → BothTables k work

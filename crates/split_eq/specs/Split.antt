@@ -1,24 +1,21 @@
--- Split folds, values with a scale, and the weights (document 01, "Split folds"; "Refused calls": "Evaluations, split folds,
--- `accumulate_into`, `last_scalar`"). Assumes nothing.
-use Prim.Native.Nat.{ℕ, _-_, _^_}
-use mathlib.Core.Bool.{not}
-use mathlib.Core.List.{List, [], _∷_}
-use lib.Dec.{eqb, ltb}
+-- Split folds, values with a scale, and the weights (document 01, "Split folds"). What the calls are refused for is in
+-- crates/split_tests/specs/SplitTests.antt. Assumes nothing.
+use Prim.Native.Nat.{ℕ, _^_}
+use mathlib.Core.List.{List}
 use lib.ListN.{length, getD}
-use Rattle.algebra.specs.Words.{unreduced}
 use Rattle.multilinear.specs.declared.Side.{Side}
 use Rattle.multilinear.specs.declared.Weight.{Weight}
 use Rattle.multilinear.specs.Equality.{eqAt}
 use Rattle.multilinear.specs.Successors.{lastRow}
 use Rattle.multilinear.specs.Folds.{scaledValueAt, scaledNextValueAt}
-use Rattle.field.specs.Field.{p, Ext, field, base, fromWords}
+use Rattle.field.specs.Field.{Ext, field, base, fromWords}
 use Rattle.field.specs.declared.Element.{Element}
 use Rattle.table.specs.Table.{tableWords, entries, elementAt, pointOf}
-use Rattle.table.specs.Refusals.{Outcome, Test, _gives_, verdict, leaves, evaluated}
-use Rattle.table.specs.Refusals.{splits, notPower, variables, tooManyVariables, tooMany, rowsDiffer}
+use Rattle.table.specs.Refusals.{Outcome, verdict, leaves, evaluated, variables}
 use Rattle.plan.specs.declared.Plan.{Plan}
 use Rattle.plan.specs.Plan.{planOf, foldOf}
-use Rattle.work.specs.Work.{workDiffers, workWords}
+use Rattle.work.specs.Work.{workWords}
+use Rattle.split_tests.specs.SplitTests.{foldAnswer, baseAnswer, extAnswer, lastTests, accumulateAnswer}
 
 -- both tables of the point, with the scale
 abbrev pub bothTables : List ℕ → Element → List ℕ
@@ -28,32 +25,7 @@ bothTables point scale = workWords (entries point) point (fromWords scale)
 abbrev pub baseAt : List ℕ → ℕ → Ext
 baseAt table y = base (getD table y 0)
 
--- the variables that remain
-abbrev pub remains : List ℕ → List ℕ → ℕ
-remains table point = variables (length table) - entries point
-
--- Split folds: 1, 2, 3, 4 (also k above n, work, out), 5. After 1
-abbrev pub sizedFoldTests : List ℕ → List ℕ → Element → List ℕ → List ℕ → List Test
-sizedFoldTests table point scale work out =
-    notPower (length table) gives 2
-    ∷ tooManyVariables (length table) gives 3
-    ∷ tooMany point gives 3
-    ∷ ltb (variables (length table)) (entries point) gives 4
-    ∷ workDiffers work (entries point) gives 4
-    ∷ rowsDiffer out (remains table point) gives 4
-    ∷ unreduced p table gives 5
-    ∷ unreduced p point gives 5
-    ∷ unreduced p (scale .c) gives 5
-    ∷ []
-
--- and whole
-abbrev pub foldTests : List ℕ → List ℕ → Element → List ℕ → List ℕ → List Test
-foldTests table point scale work out =
-    splits point gives 1 ∷ splits work gives 1 ∷ splits out gives 1 ∷ sizedFoldTests table point scale work out
-
-unfoldable pub foldAnswer : List ℕ → List ℕ → Element → List ℕ → List ℕ → ℕ
-foldAnswer table point scale work out = verdict (foldTests table point scale work out)
-
+-- split folds
 unfoldable pub foldWork : List ℕ → List ℕ → Element → List ℕ → List ℕ → List ℕ
 foldWork table point scale work out = leaves (foldAnswer table point scale work out) (bothTables point scale) work
 
@@ -69,26 +41,7 @@ unfoldable pub foldOut : Side → Weight → List ℕ → List ℕ → Element �
 foldOut side weight table point scale work out =
     leaves (foldAnswer table point scale work out) (folded side weight table point scale) out
 
--- Evaluations: 1, 2, 3, 4 (also work), 5; k = n. After 1, of a table of `count` entries
-abbrev pub valueTests : ℕ → List ℕ → List ℕ → Element → List ℕ → List Test
-valueTests count table point scale work =
-    notPower count gives 2
-    ∷ tooManyVariables count gives 3
-    ∷ tooMany point gives 3
-    ∷ not (eqb (variables count) (entries point)) gives 4
-    ∷ workDiffers work (entries point) gives 4
-    ∷ unreduced p table gives 5
-    ∷ unreduced p point gives 5
-    ∷ unreduced p (scale .c) gives 5
-    ∷ []
-
--- of a table of base words
-abbrev pub baseTests : List ℕ → List ℕ → Element → List ℕ → List Test
-baseTests table point scale work = splits point gives 1 ∷ splits work gives 1 ∷ valueTests (length table) table point scale work
-
-unfoldable pub baseAnswer : List ℕ → List ℕ → Element → List ℕ → ℕ
-baseAnswer table point scale work = verdict (baseTests table point scale work)
-
+-- evaluations, of a table of base words
 unfoldable pub baseWork : List ℕ → List ℕ → Element → List ℕ → List ℕ
 baseWork table point scale work = leaves (baseAnswer table point scale work) (bothTables point scale) work
 
@@ -101,13 +54,6 @@ scaledNextBaseAnswer table point scale work =
     evaluated (baseAnswer table point scale work) (scaledNextValueAt field (pointOf point) (fromWords scale) (baseAt table))
 
 -- of a table of elements
-abbrev pub extTests : List ℕ → List ℕ → Element → List ℕ → List Test
-extTests table point scale work =
-    splits table gives 1 ∷ splits point gives 1 ∷ splits work gives 1 ∷ valueTests (entries table) table point scale work
-
-unfoldable pub extAnswer : List ℕ → List ℕ → Element → List ℕ → ℕ
-extAnswer table point scale work = verdict (extTests table point scale work)
-
 unfoldable pub extWork : List ℕ → List ℕ → Element → List ℕ → List ℕ
 extWork table point scale work = leaves (extAnswer table point scale work) (bothTables point scale) work
 
@@ -115,17 +61,7 @@ unfoldable pub scaledExtAnswer : List ℕ → List ℕ → Element → List ℕ 
 scaledExtAnswer table point scale work =
     evaluated (extAnswer table point scale work) (scaledValueAt field (pointOf point) (fromWords scale) (elementAt table))
 
--- `last_scalar`: 1, 3, 4 (work), 5; scale·eq[N-1]
-abbrev pub lastTests : List ℕ → Element → List ℕ → List Test
-lastTests point scale work =
-    splits point gives 1
-    ∷ splits work gives 1
-    ∷ tooMany point gives 3
-    ∷ workDiffers work (entries point) gives 4
-    ∷ unreduced p point gives 5
-    ∷ unreduced p (scale .c) gives 5
-    ∷ []
-
+-- `last_scalar`: scale·eq[N-1]
 unfoldable pub lastAnswer : List ℕ → Element → List ℕ → Outcome
 lastAnswer point scale work =
     evaluated (verdict (lastTests point scale work))
@@ -134,27 +70,7 @@ lastAnswer point scale work =
 unfoldable pub lastWork : List ℕ → Element → List ℕ → List ℕ
 lastWork point scale work = leaves (verdict (lastTests point scale work)) (bothTables point scale) work
 
--- `accumulate_into`: out is the table, and "accumulated out is input": 1, 2, 3, 4 (also work), 5
-abbrev pub accumulateTests : List ℕ → Element → Element → List ℕ → List ℕ → List Test
-accumulateTests point scale given work out =
-    splits point gives 1
-    ∷ splits work gives 1
-    ∷ splits out gives 1
-    ∷ notPower (entries out) gives 2
-    ∷ tooManyVariables (entries out) gives 3
-    ∷ tooMany point gives 3
-    ∷ not (eqb (variables (entries out)) (entries point)) gives 4
-    ∷ workDiffers work (entries point) gives 4
-    ∷ unreduced p out gives 5
-    ∷ unreduced p point gives 5
-    ∷ unreduced p (scale .c) gives 5
-    ∷ unreduced p (given .c) gives 5
-    ∷ []
-
--- out[y] gains own scale·given scale·eq[y]
-unfoldable pub accumulateAnswer : List ℕ → Element → Element → List ℕ → List ℕ → ℕ
-accumulateAnswer point scale given work out = verdict (accumulateTests point scale given work out)
-
+-- `accumulate_into`: out[y] gains own scale·given scale·eq[y]
 unfoldable pub accumulateWork : List ℕ → Element → Element → List ℕ → List ℕ → List ℕ
 accumulateWork point scale given work out = leaves (accumulateAnswer point scale given work out) (bothTables point scale) work
 

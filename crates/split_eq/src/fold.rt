@@ -4,7 +4,6 @@
 //     suffix    out[i] = scale sum_y weight[y] table[i 2^k + y]        a place has 2^k words
 //
 // A plain weight is eq[y], a shifted one eq[y - 1], and 0 at the first row.
-use crate::tests;
 use field::Element;
 use multilinear::Side;
 use multilinear::Weight;
@@ -13,7 +12,8 @@ ghost use mathlib.Core.Path.{_≡_};
 ghost use Rattle.multilinear.specs.declared.Side.the-variants.{Prefix, Suffix};
 ghost use Rattle.multilinear.specs.declared.Weight.the-variants.{Plain, Shifted};
 ghost use Rattle.table.specs.Refusals.{answer};
-ghost use Rattle.split_eq.specs.Split.{foldAnswer, foldWork, foldOut};
+ghost use Rattle.split_tests.specs.SplitTests.{foldAnswer};
+ghost use Rattle.split_eq.specs.Split.{foldWork, foldOut};
 
 // out[i] = scale sum_y eq[y] table[y inner + i].
 pub fn compress_prefix(
@@ -128,7 +128,7 @@ fn compress(
 {
     let side = kind.side;
     let weight = kind.weight;
-    let tested = tests::of_fold(table, point, scale, work, out);
+    let tested = split_tests::of_fold(table, point, scale, work, out);
     match tested {
         Verdict::Refused(refusal) => Verdict::Refused(refusal),
         Verdict::Accepted => {

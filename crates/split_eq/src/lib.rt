@@ -6,5 +6,4 @@
 // `accumulate_into` and `eval_next_base` read them.
 pub mod fold;
 pub mod scalar;
-mod tests;
 pub mod value;

@@ -1,18 +1,18 @@
 // The weights themselves: the last row's, and all of them added to a table.
-use crate::tests;
 use field::Element;
 use table::Evaluation;
 use table::Verdict;
 ghost use mathlib.Core.Path.{_≡_};
 ghost use Rattle.table.specs.Refusals.{answer, outcome};
-ghost use Rattle.split_eq.specs.Split.{lastAnswer, lastWork, accumulateAnswer, accumulateWork, accumulateOut};
+ghost use Rattle.split_tests.specs.SplitTests.{accumulateAnswer};
+ghost use Rattle.split_eq.specs.Split.{lastAnswer, lastWork, accumulateWork, accumulateOut};
 
 // scale eq[2^k - 1], the last row's.
 pub fn last_scalar(point: &[u32], scale: Element, work: &mut [u32]) -> Evaluation
     ensures { λ r. ⌜ outcome r ≡ lastAnswer (now (point .entry)) scale (now (work .entry)) ⌝ }
     ensures { λ _. ⌜ now (work .exit) ≡ lastWork (now (point .entry)) scale (now (work .entry)) ⌝ }
 {
-    let tested = tests::of_last(point, scale, work);
+    let tested = split_tests::of_last(point, scale, work);
     match tested {
         Verdict::Refused(refusal) => Evaluation::Refused(refusal),
         Verdict::Accepted => {
@@ -38,7 +38,7 @@ pub fn accumulate_into(
     ensures { λ _. ⌜ now (out .exit)
         ≡ accumulateOut (now (point .entry)) scale given (now (work .entry)) (now (out .entry)) ⌝ }
 {
-    let tested = tests::of_accumulate(point, scale, given, work, out);
+    let tested = split_tests::of_accumulate(point, scale, given, work, out);
     match tested {
         Verdict::Refused(refusal) => Verdict::Refused(refusal),
         Verdict::Accepted => {

@@ -4,7 +4,6 @@
 //     eval_next_base         scale sum_y next[y] table[y]      next[y] = eq[y - 1], and eq[y] more at the last row
 //
 // A table of no variable has its constant, and the next value of one variable its entry 1, without the scale.
-use crate::tests;
 use field::Element;
 use table::Evaluation;
 use table::Verdict;
@@ -24,7 +23,7 @@ pub fn eval_base(table: &[u32], point: &[u32], scale: Element, work: &mut [u32])
     ensures { λ r. ⌜ outcome r ≡ scaledBaseAnswer (now (table .entry)) (now (point .entry)) scale (now (work .entry)) ⌝ }
     ensures { λ _. ⌜ now (work .exit) ≡ baseWork (now (table .entry)) (now (point .entry)) scale (now (work .entry)) ⌝ }
 {
-    let tested = tests::of_base(table, point, scale, work);
+    let tested = split_tests::of_base(table, point, scale, work);
     match tested {
         Verdict::Refused(refusal) => Evaluation::Refused(refusal),
         Verdict::Accepted => {
@@ -40,7 +39,7 @@ pub fn eval_ext(table: &[u32], point: &[u32], scale: Element, work: &mut [u32]) 
     ensures { λ r. ⌜ outcome r ≡ scaledExtAnswer (now (table .entry)) (now (point .entry)) scale (now (work .entry)) ⌝ }
     ensures { λ _. ⌜ now (work .exit) ≡ extWork (now (table .entry)) (now (point .entry)) scale (now (work .entry)) ⌝ }
 {
-    let tested = tests::of_ext(table, point, scale, work);
+    let tested = split_tests::of_ext(table, point, scale, work);
     match tested {
         Verdict::Refused(refusal) => Evaluation::Refused(refusal),
         Verdict::Accepted => {
@@ -56,7 +55,7 @@ pub fn eval_next_base(table: &[u32], point: &[u32], scale: Element, work: &mut [
     ensures { λ r. ⌜ outcome r ≡ scaledNextBaseAnswer (now (table .entry)) (now (point .entry)) scale (now (work .entry)) ⌝ }
     ensures { λ _. ⌜ now (work .exit) ≡ baseWork (now (table .entry)) (now (point .entry)) scale (now (work .entry)) ⌝ }
 {
-    let tested = tests::of_base(table, point, scale, work);
+    let tested = split_tests::of_base(table, point, scale, work);
     match tested {
         Verdict::Refused(refusal) => Evaluation::Refused(refusal),
         Verdict::Accepted => {

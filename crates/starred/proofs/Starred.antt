@@ -12,10 +12,12 @@ use Rattle.multilinear.specs.Folds.{foldAt}
 use Rattle.field.specs.Field.{field, base, fromWords}
 use Rattle.table.specs.Table.{tableWords, getAt, elements}
 use Rattle.table.specs.Refusals.{verdict}
-use Rattle.point.specs.Point.{tableAnswer, equalityOut, evalNextAnswer}
+use Rattle.point.specs.Point.{tableAnswer, equalityOut}
+use Rattle.next.specs.Next.{evalNextAnswer}
 use Rattle.poly.specs.Poly.{newAnswer, newOut, nextOut}
 use Rattle.poly.specs.Values.{evalBaseAnswer, evalExtAnswer, evalNextBaseAnswer}
-use Rattle.split_eq.specs.Split.{foldAnswer, foldOut}
+use Rattle.split_tests.specs.SplitTests.{foldAnswer}
+use Rattle.split_eq.specs.Split.{foldOut}
 use Rattle.starred.specs.Starred.{Hold, starred}
 
 pub starred-hold : Hold starred

@@ -14,7 +14,8 @@ use Rattle.field.specs.Field.{p, field, fromWords}
 use Rattle.field.specs.declared.Element.{Element}
 use Rattle.table.specs.Refusals.{Outcome}
 use Rattle.point.specs.declared.equality.BitOrder.the-variants.{Msb}
-use Rattle.point.specs.Point.{equalityOut, evalNextAnswer}
+use Rattle.point.specs.Point.{equalityOut}
+use Rattle.next.specs.Next.{evalNextAnswer}
 use Rattle.poly.specs.Poly.{newOut, nextOut}
 use Rattle.poly.specs.Values.{evalBaseAnswer, evalExtAnswer, evalNextBaseAnswer}
 use Rattle.split_eq.specs.Split.{foldOut}
@@ -99,7 +100,7 @@ starred =
     ∷ (folded Suffix Plain 3 is number 10 ++ number 30)
     -- split_eq::fold::compress_suffix_shifted, point (3): -8, -32
     ∷ (folded Suffix Shifted 3 is minus 8 ++ minus 32)
-    -- point::next::eval_next, z and (5, 7): carry 144, done -106, omega 210
+    -- next::eval_next, z and (5, 7): carry 144, done -106, omega 210
     ∷ (evalNextAnswer z other is accepted (number 144 ++ minus 106 ++ number 210))
     -- poly::new_next_from_point, then poly::value::eval_ext: the next table of z at (5, 7): 104
     ∷ (evalExtAnswer (nextOut z (sevens 16)) other is accepted (number 104))

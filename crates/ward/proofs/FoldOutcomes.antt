@@ -15,7 +15,7 @@ use Rattle.table.specs.declared.Verdict.{Verdict}
 use Rattle.table.specs.declared.Verdict.the-variants.{Refused}
 use Rattle.table.proofs.Verdicts.{gone-through, clear}
 use Rattle.table.proofs.Fronts.{front-refused, front-accepted}
-use Rattle.split_eq.specs.Split.{sizedFoldTests}
+use Rattle.split_tests.specs.SplitTests.{sizedFoldTests}
 use Rattle.ward.specs.Ward.{foldAnswer}
 use Rattle.ward.specs.Inner.{sizeTests, Sized}
 

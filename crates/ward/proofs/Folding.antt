@@ -26,9 +26,10 @@ use Rattle.split_eq.specs.Split.{bothTables, folded}
 use Rattle.plan.specs.declared.Plan.{Plan}
 use Rattle.plan.specs.Plan.{planOf, foldOf}
 use Rattle.byte_fold.specs.Inner.{FillsBytes}
+use Rattle.byte_points.specs.Few.{Few}
+use Rattle.byte_points.proofs.Sizes.{whole-words, few, sized}
 use Rattle.ward.specs.Ward.{foldAnswer}
-use Rattle.ward.specs.Inner.{Few, Accepts, Tables}
-use Rattle.ward.proofs.Sizes.{whole-words, few, sized}
+use Rattle.ward.specs.Inner.{Accepts, Tables}
 
 module _ (table point : List ℕ) (scale : Element) (work out : List ℕ) where
   abbrev n : ℕ

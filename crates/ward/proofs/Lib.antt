@@ -1,5 +1,3 @@
-mod Sizes
-mod Outcomes
 mod Halves
 mod FoldOutcomes
 mod Folding

@@ -1,21 +1,16 @@
 -- What the inner functions take and give. No operation that users call cites it. Assumes nothing.
 use mathlib.Core.Path.{_≡_}
-use Prim.Native.Nat.{ℕ, _+_, _*_, _%_, _^_, _≤_}
+use Prim.Native.Nat.{ℕ, _+_, _*_, _^_}
 use mathlib.Core.List.{List, _++_}
 use lib.ListN.{length}
 use Rattle.octets.specs.Octets.{words}
 use Rattle.field.specs.Field.{Reduced}
 use Rattle.field.specs.declared.Element.{Element}
-use Rattle.table.specs.Refusals.{Test, verdict, most}
+use Rattle.table.specs.Refusals.{Test, verdict}
 use Rattle.table.specs.Inner.{entryTests}
 use Rattle.point.specs.Coordinates.{Coordinates}
 use Rattle.work.specs.Work.{first, others}
 use Rattle.ward.specs.Ward.{foldSplits, foldAnswer}
-
--- the bytes of at most 20 coordinates
-pub record Few (point : List ℕ) : Type 0 where
-  pub whole : length point % 16 ≡ 0
-  pub few : length point ≤ 16 * most
 
 -- the fold's tests of sizes: 1, 2, 3
 abbrev pub sizeTests : List ℕ → List ℕ → List ℕ → List ℕ → List Test

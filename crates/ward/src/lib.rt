@@ -1,13 +1,13 @@
 // The calls of the ward app: bytes in, bytes out, and 0 or the refusal's number. A word is four bytes, the lowest first, and an element
 // four words. Nothing is allocated, and a table is never copied whole.
-mod points;
 mod shifted;
 
 use field::Element;
 use multilinear::Side;
 ghost use mathlib.Core.Path.{_≡_};
 ghost use Rattle.multilinear.specs.declared.Side.the-variants.{Prefix, Suffix};
-ghost use Rattle.ward.specs.Ward.{vertexAnswer, vertexOut, nextAnswer, nextOut, scaleOf, foldAnswer, foldWork, foldOut};
+ghost use Rattle.byte_points.specs.BytePoints.{vertexAnswer, vertexOut, nextAnswer, nextOut};
+ghost use Rattle.ward.specs.Ward.{scaleOf, foldAnswer, foldWork, foldOut};
 
 // out, of one element, becomes eq[vertex].
 #[no_mangle]
@@ -15,7 +15,7 @@ pub extern "C" fn ward_equality_at_vertex(point: &[u8], vertex: u64, out: &mut [
     ensures { λ r. ⌜ r ≡ vertexAnswer (now (point .entry)) vertex (now (out .entry)) ⌝ }
     ensures { λ _. ⌜ now (out .exit) ≡ vertexOut (now (point .entry)) vertex (now (out .entry)) ⌝ }
 {
-    points::equality_at_vertex(point, vertex as usize, out).answer()
+    byte_points::equality_at_vertex(point, vertex as usize, out).answer()
 }
 
 // out, of three elements, becomes carry, done and omega of two points.
@@ -24,7 +24,7 @@ pub extern "C" fn ward_eval_next(point: &[u8], other: &[u8], out: &mut [u8]) -> 
     ensures { λ r. ⌜ r ≡ nextAnswer (now (point .entry)) (now (other .entry)) (now (out .entry)) ⌝ }
     ensures { λ _. ⌜ now (out .exit) ≡ nextOut (now (point .entry)) (now (other .entry)) (now (out .entry)) ⌝ }
 {
-    points::eval_next(point, other, out).answer()
+    byte_points::eval_next(point, other, out).answer()
 }
 
 // out becomes the shifted fold over the first variables of a table; work holds both tables of the point after it.

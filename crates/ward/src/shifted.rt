@@ -1,5 +1,4 @@
 // The shifted folds. The point and the work buffer's tables are decoded into arrays of the function's own, the table is read in place.
-use crate::points;
 use field::Element;
 use multilinear::Side;
 use multilinear::Weight;
@@ -110,7 +109,7 @@ fn fold(side: Side, table: &[u8], point: &[u8], scale: Element, work: &mut [u8],
     let n = table::variables(table.len() / 4);
     let k = point.len() / 4 / 4;
     let len = point.len() / 4;
-    let zs = points::coordinates(point);
+    let zs = byte_points::coordinates(point);
     fill(work, &zs[..len], k, scale);
     byte_fold::compress(
         plan::new(n, k, side, Weight::Shifted, scale, &zs[..len]),

@@ -1,9 +1,8 @@
 // The value of a table of few variables, by halves down to a pair, the count of variables falling by one at each call.
 //
 // A coordinate is a factor of as many products as there are tables to split at it. So what a product by it needs beside its words, the
-// words of the coordinate times X^4, is made once (`field::multiplier`).
+// words of the coordinate times X^4, is made once (`multiplier`).
 use field::Element;
-use field::multiplier;
 ghost use mathlib.Core.Path.{_≡_};
 ghost use Prim.Native.Nat.{_*_, _≤_};
 ghost use lib.ListN.{length, replicate};

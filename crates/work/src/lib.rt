@@ -3,7 +3,7 @@
 //     work     eq0: scale eq of the first half of the coordinates | eq1: eq of the others
 //     row y    has the weight eq0[y / n1] eq1[y % n1], n1 being the entries of eq1
 use field::Element;
-use field::multiplier::Multiplier;
+use multiplier::Multiplier;
 use point::equality::BitOrder;
 ghost use mathlib.Core.Path.{_≡_};
 ghost use Prim.Native.Nat.{_+_, _^_, _<_};

@@ -1,6 +1,6 @@
 // The examples on points: z = (2, 3).
 use field::Element;
-use point::next::Next;
+use next::Next;
 
 fn z() -> [u32; 8] {
     [2, 0, 0, 0, 3, 0, 0, 0]
@@ -68,9 +68,9 @@ fn pairs() {
     let z = z();
     let other = [5, 0, 0, 0, 7, 0, 0, 0];
     print::text(b"eval_eq of z and (5, 7):");
-    print::evaluation(point::next::eval_eq(&z, &other));
+    print::evaluation(next::eval_eq(&z, &other));
     print::text(b"eval_next of z and (5, 7):");
-    match point::next::eval_next(&z, &other) {
+    match next::eval_next(&z, &other) {
         Next::Refused(refusal) => print::refused(refusal),
         Next::Parts { carry, done, omega } => {
             print::value(carry);

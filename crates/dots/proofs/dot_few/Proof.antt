@@ -30,25 +30,25 @@ add-s0 : tie.Need-add-s0 Inv-loop μ-loop
 add-s0 c =
     let test = c .before in
     let pre = begin test .pre in
-    omega (arith, fits _ _ (pre .0) (pre .1) 0 _ (test .loop-test .taken) (at test .loop .inv .is0) (c .one .ensures))
+    omega (arith, fits _ _ (pre .0) (pre .1) 0 _ (test .loop-test .taken) (at test .loop .inv .is0) (c .one .ensures .0))
 
 add-s1 : tie.Need-add-s1 Inv-loop μ-loop
 add-s1 c =
     let test = c .before .before in
     let pre = begin test .pre in
-    omega (arith, fits _ _ (pre .0) (pre .1) 1 _ (test .loop-test .taken) (at test .loop .inv .is1) (c .one2 .ensures))
+    omega (arith, fits _ _ (pre .0) (pre .1) 1 _ (test .loop-test .taken) (at test .loop .inv .is1) (c .one2 .ensures .0))
 
 add-s2 : tie.Need-add-s2 Inv-loop μ-loop
 add-s2 c =
     let test = c .before .before .before in
     let pre = begin test .pre in
-    omega (arith, fits _ _ (pre .0) (pre .1) 2 _ (test .loop-test .taken) (at test .loop .inv .is2) (c .one3 .ensures))
+    omega (arith, fits _ _ (pre .0) (pre .1) 2 _ (test .loop-test .taken) (at test .loop .inv .is2) (c .one3 .ensures .0))
 
 add-s3 : tie.Need-add-s3 Inv-loop μ-loop
 add-s3 c =
     let test = c .before .before .before .before in
     let pre = begin test .pre in
-    omega (arith, fits _ _ (pre .0) (pre .1) 3 _ (test .loop-test .taken) (at test .loop .inv .is3) (c .one4 .ensures))
+    omega (arith, fits _ _ (pre .0) (pre .1) 3 _ (test .loop-test .taken) (at test .loop .inv .is3) (c .one4 .ensures .0))
 
 loop-again : tie.Need-loop-again Inv-loop μ-loop
 loop-again c =
@@ -56,8 +56,8 @@ loop-again c =
     let second = third .before in
     let first = second .before in
     let test = first .before in
-    turn _ _ _ _ _ _ (at test .loop .inv) (test .loop-test .taken) (first .one .ensures) (second .one2 .ensures) (third .one3 .ensures)
-    (c .one4 .ensures)
+    turn _ _ _ _ _ _ (at test .loop .inv) (test .loop-test .taken) (first .one .ensures .0) (second .one2 .ensures .0) (third .one3 .ensures .0)
+    (c .one4 .ensures .0)
 
 returns : tie.Need-returns Inv-loop μ-loop
 returns c =

@@ -7,8 +7,8 @@ use lib.ListN.{length}
 use lib.Pow.{pow-mono}
 use lib.Seq.{length-take-le}
 use Rattle.table.specs.Refusals.{most}
-use Rattle.frames.specs.Reader.{used}
-use Rattle.frames.proofs.Accepted.{feeds}
+use Rattle.runs.specs.Reader.{used}
+use Rattle.runs.proofs.Accepted.{feeds}
 use Rattle.frames.proofs.Keeping.{used-fits, hands}
 use Rattle.frames.proofs.feed.Statement.{statement}
 use Rattle.frames.proofs.feed.Tie as tie

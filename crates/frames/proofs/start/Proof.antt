@@ -1,6 +1,6 @@
 -- `frames::start` meets its contract. Assumes nothing.
 use borrow.Author.Needs.{needs}
-use Rattle.frames.specs.Reader.{started}
+use Rattle.runs.specs.Reader.{started}
 use Rattle.frames.proofs.start.Statement.{statement}
 use Rattle.frames.proofs.start.Tie as tie
 

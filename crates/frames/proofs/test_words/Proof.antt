@@ -3,7 +3,7 @@ use mathlib.Core.Path.{sym, ap, _∙_}
 use borrow.Author.Needs.{needs}
 use lib.ListN.{length}
 use Rattle.table.proofs.Verdicts.{gone-through}
-use Rattle.session.proofs.Outcomes.{left-test}
+use Rattle.ledger.proofs.Left.{left-test}
 use Rattle.frames.proofs.test_words.Statement.{statement}
 use Rattle.frames.proofs.test_words.Tie as tie
 

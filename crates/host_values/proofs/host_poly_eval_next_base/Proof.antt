@@ -4,4 +4,4 @@ use Rattle.host_values.proofs.host_poly_eval_next_base.Statement.{state
 use Rattle.host_values.proofs.host_poly_eval_next_base.Tie as tie
 
 pub host-poly-eval-next-base-spec : {M : Type 1} → statement M
-host-poly-eval-next-base-spec = tie.close (tie.spec (λ c κs. search needs) (λ c κs. search needs) (λ c. cc))
+host-poly-eval-next-base-spec = tie.close (tie.spec (λ c κs. search needs) (λ c κs. search needs) (λ c. rw (c .give .ensures, c .before .before .eval-next-base .ensures)))

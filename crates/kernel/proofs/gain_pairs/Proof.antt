@@ -28,6 +28,9 @@ module _ (c : tie.In-loop Inv-loop μ-loop) where
   fits : 4 * (begin .args .from + at .loop .i) + 3 < length (begin .args .out .now)
   fits = omega (arith, c .loop-test .taken, begin .pre .0 .room)
 
+  there : 2 * at .loop .i + 1 < length (begin .args .words .now)
+  there = omega (arith, c .loop-test .taken, begin .pre .0 .there)
+
   room : 4 * (begin .args .from + at .loop .i) + 3 < length (at .loop .out)
   room = omega (arith, fits, at .loop .inv .1 .len)
 
@@ -63,13 +66,13 @@ gain-pairs-spec =
     (λ c. (omega arith, none _ _ _))
     (λ c. omega (arith, fits (c .before)))
     (λ c κs. room (c .before))
-    (search needs)
-    (search needs)
-    (search needs)
-    (search needs)
-    (search needs)
-    (search needs)
-    (search needs)
+    (λ c. omega (arith, there (c .before .before)))
+    (λ c. omega (arith, there (c .before .before)))
+    (λ c. omega (arith, there (c .before .before .before)))
+    (λ c. omega (arith, there (c .before .before .before)))
+    (λ c. omega (arith, there (c .before .before .before)))
+    (λ c. omega (arith, there (c .before .before .before)))
+    (λ c. omega (arith, there (c .before .before .before .before)))
     step-two-requires
     (λ c. omega (arith, fits (c .before .before .before .before .before .before)))
     (λ c κs. room (c .before .before .before .before .before .before))

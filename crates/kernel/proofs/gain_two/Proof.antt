@@ -31,6 +31,9 @@ module _ (c : tie.In-loop Inv-loop μ-loop) where
   fits : 4 * (0 + at .loop .y) + 3 < length (begin .args .out .now)
   fits = omega (arith, c .loop-test .taken, begin .pre .0 .room)
 
+  there : begin .args .n + at .loop .y < length (begin .args .words .now)
+  there = omega (arith, c .loop-test .taken, begin .pre .0 .there)
+
   room : 4 * at .loop .y + 3 < length (at .loop .out)
   room = omega (arith, fits, at .loop .inv .1 .len)
 
@@ -65,11 +68,11 @@ gain-two-spec =
     μ-loop
     loop-holds
     (λ c κs. room (c .before))
-    (search needs)
-    (search needs)
-    (search needs)
-    (search needs)
-    (search needs)
+    (λ c. omega (arith, there (c .before .before)))
+    (λ c. omega (arith, there (c .before .before .before)))
+    (λ c. omega (arith, there (c .before .before .before)))
+    (λ c. omega (arith, there (c .before .before .before)))
+    (λ c. omega (arith, there (c .before .before .before .before)))
     step-two-requires
     (λ c κs. room (c .before .before .before .before .before .before))
     (search needs)

@@ -34,8 +34,9 @@ use denote.Triple.Clauses.{lasts}
 use denote.Triple.Table.{entered, cited}
 use denote.Triple.Walked.{says, Stays, stay-ref, stay-none-slice, walkOf, goes-ref, goes-none-slice, ends-at}
 use denote.Exit.{yes}
-use Rattle.session.specs.Session.{state, settled, closeStep}
-use Rattle.session.specs.declared.Session.{Session}
+use Rattle.ledger.specs.Session.{state, closeStep}
+use Rattle.ledger.specs.declared.Session.{Session}
+use Rattle.session.specs.Settled.{settled}
 use Rattle.session.specs.declared.Settled.{Settled}
 use Rattle.session.proofs.close as core
 use Rattle.session.proofs.close.Symbol as core-code

@@ -36,8 +36,8 @@ use denote.Triple.Walked.{says, Stays, stay-none, stay-none-slice, walkOf, goes-
 use denote.Exit.{yes}
 use Rattle.table.specs.Refusals.{answer}
 use Rattle.table.specs.declared.Verdict.{Verdict}
-use Rattle.session.specs.Session.{state, closeStep}
-use Rattle.session.specs.declared.Session.{Session}
+use Rattle.ledger.specs.Session.{state, closeStep}
+use Rattle.ledger.specs.declared.Session.{Session}
 use Rattle.lent.proofs.Values.{sessionRow, answerRow, sessionVal, settledVal, wordsVal, session-vals, answer-mir, SessionIs}
 use Rattle.lent.proofs.Values.{settledOf, session-tells, answer-tells, settled-made, session-typed, answer-typed, settled-typed}
 use Rattle.lent.proofs.Lending.{session-owned, settled-owned, lends, answered, returned, freed, copied, sets, meets}

@@ -35,8 +35,9 @@ use denote.Triple.Table.{entered, cited}
 use denote.Triple.Walked.{says, Stays, stay-ref, gave-slice, stay-none-slice, walkOf, ends-at}
 use denote.Triple.Walked.{goes-ref, goes-gave-slice, goes-none-slice}
 use denote.Exit.{yes}
-use Rattle.session.specs.Session.{state, settled, feedStep}
-use Rattle.session.specs.declared.Session.{Session}
+use Rattle.ledger.specs.Session.{state, feedStep}
+use Rattle.ledger.specs.declared.Session.{Session}
+use Rattle.session.specs.Settled.{settled}
 use Rattle.session.specs.declared.Settled.{Settled}
 use Rattle.session.proofs.feed as core
 use Rattle.session.proofs.feed.Symbol as core-code

@@ -37,8 +37,8 @@ use denote.Triple.Walked.{goes-none, goes-gave-slice, goes-none-slice}
 use denote.Exit.{yes}
 use Rattle.table.specs.Refusals.{answer}
 use Rattle.table.specs.declared.Verdict.{Verdict}
-use Rattle.session.specs.Session.{state, feedStep}
-use Rattle.session.specs.declared.Session.{Session}
+use Rattle.ledger.specs.Session.{state, feedStep}
+use Rattle.ledger.specs.declared.Session.{Session}
 use Rattle.lent.proofs.Values.{sessionRow, answerRow, sessionVal, settledVal, wordsVal, session-vals, answer-mir, SessionIs}
 use Rattle.lent.proofs.Values.{settledOf, session-tells, answer-tells, settled-made, session-typed, answer-typed, settled-typed}
 use Rattle.lent.proofs.Lending.{session-owned, settled-owned, lends, answered, returned, told-last, freed, copied, sets, meets}

@@ -3,7 +3,8 @@ use mathlib.Core.Path.{sym}
 use borrow.Author.Needs.{needs}
 use native.Mathlib.Omega.{arith}
 use lib.Seq.{length-take-le}
-use Rattle.piece.proofs.Adding.{again, summed}
+use Rattle.moved.proofs.Moving.{again}
+use Rattle.piece.proofs.Adding.{summed}
 use Rattle.piece.proofs.add_terms.Statement.{statement}
 use Rattle.piece.proofs.add_terms.Tie as tie
 
@@ -11,14 +12,14 @@ add-own-requires : tie.Need-add-own-requires
 add-own-requires c κs =
     let moved = c .before .before .before in
     let begin = moved .before .before .before .before .before .before .before in
-    again (begin .pre .adds) (moved .add-moved .ensures)
+    again (begin .pre .adds) (moved .add .ensures)
 
 returns : tie.Need-returns
 returns c =
     let own = c .before .before in
     let moved = own .before .before .before .before in
     let a = moved .before .before .before .before .before .before .before .args in
-    summed (a .side) (a .terms) (a .words .now) (a .piece .now) (a .taken) (moved .add-moved .ensures) (own .add-own .ensures)
+    summed (a .side) (a .terms) (a .words .now) (a .piece .now) (a .taken) (moved .add .ensures) (own .add-own .ensures)
 
 pub add-terms-spec : {M : Type 1} → statement M
 add-terms-spec =

@@ -22,9 +22,10 @@ use Rattle.table.specs.Gained.{Gained}
 use Rattle.table.proofs.Gaining.{nothing, gained-as}
 use Rattle.table.proofs.Laws.{elements-length}
 use Rattle.table.proofs.Tests.{reduced-at}
-use Rattle.piece.specs.declared.Terms.{Terms}
+use Rattle.moved.specs.declared.Terms.{Terms}
+use Rattle.moved.specs.Moved.{Adds}
 use Rattle.piece.specs.declared.own.Stand.{Stand}
-use Rattle.piece.specs.Inner.{Adds, ownBy, Apart, apart, Stands, rowBy}
+use Rattle.piece.specs.Inner.{ownBy, Apart, apart, Stands, rowBy}
 
 -- a weight that is 0
 pub no-own : (side : Side) (weight : Weight) (inner : ℕ) (zs : List Ext) (scale : Ext) (f : ℕ → Ext) (i : ℕ)

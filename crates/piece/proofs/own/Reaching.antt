@@ -14,9 +14,10 @@ use Rattle.table.specs.Table.{elementAt, elements, putAt, placed}
 use Rattle.table.specs.Gained.{Gained}
 use Rattle.table.proofs.Gaining.{none, turn, gained-as, widened-to}
 use Rattle.table.proofs.Placed.{absent, placed-before, placed-word, placed-after}
-use Rattle.piece.specs.declared.Terms.{Terms}
+use Rattle.moved.specs.declared.Terms.{Terms}
+use Rattle.moved.specs.Moved.{Adds}
 use Rattle.piece.specs.declared.own.Stand.{Stand}
-use Rattle.piece.specs.Inner.{Adds, Stands, reached, rowBy}
+use Rattle.piece.specs.Inner.{Stands, reached, rowBy}
 
 -- the numbers below d / s, rounded up, are those whose multiple of s is below d
 module _ (d s i : ℕ) (some : 0 < s) where

@@ -6,7 +6,7 @@ use lib.ListN.{take}
 use lib.Seq.{length-take-le}
 use Rattle.frame.specs.declared.Frame.{Frame}
 use Rattle.frame.specs.Frame.{frameOf}
-use Rattle.frames.specs.Reader.{turn, turned, outAfter}
+use Rattle.runs.specs.Reader.{turn, turned, outAfter}
 use Rattle.program.proofs.OneLine.{refusal-fits, line-refused, out-fits, line-accepted}
 use Rattle.program.proofs.one_line.Statement.{statement}
 use Rattle.program.proofs.one_line.Tie as tie

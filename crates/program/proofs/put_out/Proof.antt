@@ -3,7 +3,7 @@ use mathlib.Core.Path.{_≡_, sym, _∙_}
 use mathlib.Core.Bool.{true}
 use borrow.Author.Needs.{needs}
 use borrow.Author.Tests.{not-true, not-false}
-use Rattle.frames.specs.Reader.{isDone}
+use Rattle.runs.specs.Reader.{isDone}
 use Rattle.program.proofs.Texts.{places-fit, not-done, done-fits, done-put}
 use Rattle.program.proofs.put_out.Statement.{statement}
 use Rattle.program.proofs.put_out.Tie as tie

@@ -1,6 +1,6 @@
 -- `scatter::scatter` meets its contract. The measure is the count of the words of the coordinates left. Assumes nothing.
 use mathlib.Core.Path.{refl, sym}
-use Prim.Native.Nat.{ℕ, _≤_, _<_}
+use Prim.Native.Nat.{ℕ, _*_, _^_, _≤_, _<_}
 use native.Mathlib.Nat.{pos-of-ne-zero}
 use native.Mathlib.Omega.{arith}
 use borrow.Author.Needs.{needs}
@@ -9,6 +9,8 @@ use borrow.Fn.Kinds.{In}
 use borrow.Fn.PlainCycle.{Measures, is, falls, and}
 use lib.ListN.{length}
 use lib.Seq.{length-take-le}
+use Rattle.table.specs.Table.{entries}
+use Rattle.table.specs.Refusals.{most}
 use Rattle.table.proofs.Parts.{after-length}
 use Rattle.scatter.proofs.Scattering.{no-words, row-fits, row-scattered, rows-fit, rows-scattered}
 use Rattle.scatter.proofs.Scattering.{others, half-fits, low-scatters, high-scatters, halves-joined}
@@ -21,7 +23,7 @@ use Rattle.field.proofs.Element.sub.Reads as sub-reads
 use Rattle.kernel.proofs.gain_row.Reads as gain-row-reads
 use Rattle.kernel.proofs.gain_two.Reads as gain-two-reads
 use Rattle.scatter.proofs.four_rows.Reads as four-rows-reads
-use Rattle.scatter.proofs.sixteen_rows.Reads as sixteen-rows-reads
+use Rattle.scatter.proofs.block_rows.Reads as block-rows-reads
 use Rattle.table.proofs.min.Reads as min-reads
 use Rattle.table.proofs.read.Reads as read-reads
 use Rattle.table.proofs.rows.Reads as rows-reads
@@ -44,8 +46,8 @@ calls t = (
   gain-row-reads.Learnt,
   four-rows-reads.Asked,
   four-rows-reads.Learnt,
-  sixteen-rows-reads.Asked,
-  sixteen-rows-reads.Learnt,
+  block-rows-reads.Asked,
+  block-rows-reads.Learnt,
   read-reads.Asked,
   read-reads.Learnt,
   mul-reads.Asked,
@@ -96,20 +98,20 @@ module _ (t : ℕ) where
       let two = whole .before in
       rows-scattered (begin (two .before) .pre .1) 2 (two .if3 .taken) (eqb-true _ _ (whole .if4 .taken)) (gained .four-rows .ensures) (λ y h. refl)
 
-  sixteen-rows-requires : scatter-lts.Need-sixteen-rows-requires (calls t) (scatter-at t) scatter.Post
-  sixteen-rows-requires c κs =
+  block-rows-requires : scatter-lts.Need-block-rows-requires (calls t) (scatter-at t) scatter.Post
+  block-rows-requires c κs =
       let whole = c .before in
       let last = whole .before in
       let s = begin (last .before .before) .pre .1 in
-      ((rw (last .if5 .taken) at (s .rest-is), s .weight-is), (rows-fit s 4 (last .if5 .taken) (eqb-true _ _ (whole .if6 .taken)), s .out-below))
+      ((rw (last .if5 .taken) at (s .rest-is), s .weight-is), (rows-fit s 6 (last .if5 .taken) (eqb-true _ _ (whole .if6 .taken)), s .out-below))
 
   returns-4 : scatter-lts.Need-returns-4 (calls t) (scatter-at t) scatter.Post
   returns-4 c =
       let gained = c .before .before in
       let whole = gained .before .before in
       let last = whole .before in
-      rows-scattered (begin (last .before .before) .pre .1) 4 (last .if5 .taken) (eqb-true _ _ (whole .if6 .taken))
-      (gained .sixteen-rows .ensures) (λ y h. refl)
+      rows-scattered (begin (last .before .before) .pre .1) 6 (last .if5 .taken) (eqb-true _ _ (whole .if6 .taken))
+      (gained .block-rows .ensures) (λ y h. refl)
 
   read-requires : scatter-lts.Need-read-requires (calls t) (scatter-at t) scatter.Post
   read-requires c κs =
@@ -208,8 +210,10 @@ pub +scatter-spec : {M : Type 1} → statement M
     (four-rows-requires t)
     (λ c. search needs)
     (returns-3 t)
-    (λ c. omega (arith, begin t (c .before .before) .pre .1 .room))
-    (sixteen-rows-requires t)
+    (λ c. let s = begin t (c .before .before) .pre .1 in
+    let few : 2 ^ 6 * entries (begin t (c .before .before) .args .out .now) ≤ 2 ^ most = rw (c .if5 .taken) at (s .small) in
+    omega (arith, s .room, few))
+    (block-rows-requires t)
     (λ c. search needs)
     (returns-4 t)
     (read-requires t)

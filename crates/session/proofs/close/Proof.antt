@@ -1,7 +1,7 @@
 -- `session::close` meets its contract: by the tests' answer. Assumes nothing.
 use mathlib.Core.Path.{refl}
 use borrow.Author.Needs.{needs}
-use Rattle.session.specs.Session.{state, closeLeaves}
+use Rattle.ledger.specs.Session.{state, closeLeaves}
 use Rattle.session.proofs.Outcomes.{settles}
 use Rattle.session.proofs.close.Statement.{statement}
 use Rattle.session.proofs.close.Tie as tie

@@ -4,8 +4,8 @@ use native.Mathlib.Omega.{arith}
 use borrow.Author.Needs.{needs}
 use Rattle.table.proofs.Answers.{answer-as}
 use Rattle.plan.specs.Sound.{Takes}
-use Rattle.session.specs.Session.{state, feedLeaves}
-use Rattle.session.proofs.Accepted.{fed, few-taken}
+use Rattle.ledger.specs.Session.{state, feedLeaves}
+use Rattle.ledger.proofs.Accepted.{fed, few-taken}
 use Rattle.session.proofs.Outcomes.{settles}
 use Rattle.session.proofs.feed.Statement.{statement}
 use Rattle.session.proofs.feed.Tie as tie

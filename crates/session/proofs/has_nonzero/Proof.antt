@@ -3,7 +3,7 @@ use mathlib.Core.Path.{_≡_, refl, sym, _∙_}
 use Prim.Native.Nat.{_-_}
 use borrow.Author.Needs.{needs}
 use lib.ListN.{length, drop}
-use Rattle.session.specs.Session.{nonzero}
+use Rattle.ledger.specs.Session.{nonzero}
 use Rattle.session.proofs.Scanning.{found, passed, ended}
 use Rattle.session.proofs.has_nonzero.Statement.{statement}
 use Rattle.session.proofs.has_nonzero.Tie as tie

@@ -1,6 +1,6 @@
 -- `session::no_session` meets its contract. Assumes nothing.
 use borrow.Author.Needs.{needs}
-use Rattle.session.specs.Session.{noSession}
+use Rattle.ledger.specs.Session.{noSession}
 use Rattle.session.proofs.no_session.Statement.{statement}
 use Rattle.session.proofs.no_session.Tie as tie
 

@@ -4,8 +4,8 @@ use mathlib.Core.Bool.{false}
 use native.Mathlib.Omega.{arith}
 use borrow.Author.Needs.{needs}
 use Rattle.table.proofs.Answers.{answer-as}
-use Rattle.session.specs.Session.{state, args, sessionOf, openAnswer, openLeaves}
-use Rattle.session.proofs.Accepted.{Opened, opened}
+use Rattle.ledger.specs.Session.{state, args, sessionOf, openAnswer, openLeaves}
+use Rattle.ledger.proofs.Accepted.{Opened, opened}
 use Rattle.session.proofs.Outcomes.{settles}
 use Rattle.session.proofs.open.Statement.{statement}
 use Rattle.session.proofs.open.Tie as tie

@@ -1,6 +1,6 @@
 -- `session::test_close` meets its contract: the tests that feed shares, and one more. Assumes nothing.
 use borrow.Author.Needs.{needs}
-use Rattle.session.specs.Session.{state}
+use Rattle.ledger.specs.Session.{state}
 use Rattle.session.proofs.Held.{close-held}
 use Rattle.session.proofs.test_close.Statement.{statement}
 use Rattle.session.proofs.test_close.Tie as tie

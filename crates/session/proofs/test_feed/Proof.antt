@@ -1,6 +1,6 @@
 -- `session::test_feed` meets its contract: the tests that close shares, and two more. Assumes nothing.
 use borrow.Author.Needs.{needs}
-use Rattle.session.specs.Session.{state}
+use Rattle.ledger.specs.Session.{state}
 use Rattle.session.proofs.Held.{feed-held}
 use Rattle.session.proofs.test_feed.Statement.{statement}
 use Rattle.session.proofs.test_feed.Tie as tie

@@ -114,9 +114,10 @@ fn frames(frames: &Frames) -> (Option<u64>, Option<u64>) {
     let text = annotated.map(|output| String::from_utf8_lossy(&output.stdout).into_owned());
     let text = text.unwrap_or_default();
     let all = text.lines().find(|line| line.contains("PROGRAM TOTALS"));
-    // `piece`, and `scatter` below it, are the fold beneath the session's
-    // tests. Calls of a function within its own are marked '2.
-    let folds = |line: &&str| line.contains(":piece::") || line.contains(":scatter::");
+    // `piece`, and `moved` and `scatter` below it, are the fold beneath the
+    // session's tests. Calls of a function within its own are marked '2.
+    let names = [":piece::", ":moved::", ":scatter::"];
+    let folds = |line: &&str| names.iter().any(|name| line.contains(name));
     let calls = text.lines().filter(folds);
     let calls = calls.filter(|line| !line.contains("'2"));
     (all.and_then(leading), calls.filter_map(leading).max())

@@ -8,7 +8,7 @@ wide-requires : tie.Need-wide-requires
 wide-requires c κs = both-below (c .before .before .before .before .pre .0 .dots) _ _
 
 returns : tie.Need-returns
-returns c = next-one _ _ _ _ (c .wide .ensures .0)
+returns c = (next-one _ _ _ _ (c .wide .ensures .0), c .wide .ensures .1)
 
 pub one-spec : {M : Type 1} → statement M
 one-spec =

@@ -32,19 +32,19 @@ returns-2 c =
     (ap (λ w. ownWeight field w (elements (begin .args .point .now) 0 (begin .args .terms .k)) (fromWords (begin .args .terms .scale)))
     (c .enum-told2 .given .1))
 
-add-row-requires : tie.Need-add-row-requires
-add-row-requires c κs =
-    let stand = c .before in
-    let rows = stand .before in
-    let pre = begin rows .pre in
-    (pre, rw (stand .stand-of .ensures) (stands pre (last rows) (rows .rows .ensures) (begin rows .args .side)))
-
 returns-3 : tie.Need-returns-3
 returns-3 c =
     let row = c .before .before in
     let stand = row .before .before in
     let rows = stand .before in
     last-own (begin rows .pre) (begin rows .args .side) (rows .before .enum-told3 .given .1) (rows .rows .ensures) (stand .stand-of .ensures) (row .add-row .ensures)
+
+add-row-requires : tie.Need-add-row-requires
+add-row-requires c κs =
+    let stand = c .before in
+    let rows = stand .before in
+    let pre = begin rows .pre in
+    (pre, rw (stand .stand-of .ensures) (stands pre (last rows) (rows .rows .ensures) (begin rows .args .side)))
 
 pub add-own-spec : {M : Type 1} → statement M
 add-own-spec =

@@ -47,14 +47,6 @@ module _ (c : tie.In-loop Inv-loop μ-loop) where
   lent-fits : 4 * (places count .rows .result * at .loop .j) + 4 * places count .rows .result ≤ length (at .loop .out)
   lent-fits = omega (arith, out-fits, at .loop .inv .1 .front .len)
 
-fold-whole-requires : tie.Need-fold-whole-requires Inv-loop μ-loop
-fold-whole-requires c κs =
-    let made = c .before .before in
-    let test = made .before in
-    let n = count test in
-    fills (begin n .pre .0) (places n .before .min .ensures) (places n .rows .ensures) (words n .rows2 .ensures) (n .rows3 .ensures)
-    (test .loop-test .taken) (made .section-of .ensures) (at test .loop .inv .1)
-
 loop-again : tie.Need-loop-again Inv-loop μ-loop
 loop-again c =
     let folded = c .before .before in
@@ -65,6 +57,14 @@ loop-again c =
       turn (begin n .pre .0) (places n .before .min .ensures) (places n .rows .ensures) (words n .rows2 .ensures) (n .rows3 .ensures)
           (test .loop-test .taken) (made .section-of .ensures) (at test .loop .inv .1) (begin n .pre .1) (folded .fold-whole .ensures),
     )
+
+fold-whole-requires : tie.Need-fold-whole-requires Inv-loop μ-loop
+fold-whole-requires c κs =
+    let made = c .before .before in
+    let test = made .before in
+    let n = count test in
+    fills (begin n .pre .0) (places n .before .min .ensures) (places n .rows .ensures) (words n .rows2 .ensures) (n .rows3 .ensures)
+    (test .loop-test .taken) (made .section-of .ensures) (at test .loop .inv .1)
 
 returns : tie.Need-returns Inv-loop μ-loop
 returns c =

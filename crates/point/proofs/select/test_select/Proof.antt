@@ -5,7 +5,20 @@ use Rattle.point.proofs.select.test_select.Statement.{statement}
 use Rattle.point.proofs.select.test_select.Tie as tie
 
 returns : tie.Need-returns
-returns c = gone-through _ tt (cc)
+returns c =
+    let point = c .before in
+    let many = point .before .before in
+    let whole = many .before .before in
+    gone-through _ tt
+    (rw (
+      c .refuse-if4 .ensures,
+      point .refuse-if3 .ensures,
+      point .before .unreduced .ensures,
+      many .refuse-if2 .ensures,
+      many .before .too-many .ensures,
+      whole .refuse-if .ensures,
+      whole .before .splits .ensures,
+    ))
 
 pub test-select-spec : {M : Type 1} → statement M
 test-select-spec =

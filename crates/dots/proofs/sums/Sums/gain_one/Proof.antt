@@ -32,10 +32,10 @@ returns c =
     let first = second .before .before in
     let begin = first .before .before .before .before in
     turn _ _ _ (begin .pre .0 .dots) (begin .pre .1) 1 (omega arith) (begin .pre .0 .there)
-    (first .before .one .ensures) (first .gain .ensures)
-    (second .before .one2 .ensures) (second .gain2 .ensures)
-    (third .before .one3 .ensures) (third .gain3 .ensures)
-    (c .before .one4 .ensures) (c .gain4 .ensures)
+    (first .before .one .ensures .0) (first .gain .ensures)
+    (second .before .one2 .ensures .0) (second .gain2 .ensures)
+    (third .before .one3 .ensures .0) (third .gain3 .ensures)
+    (c .before .one4 .ensures .0) (c .gain4 .ensures)
 
 pub gain-one-spec : {M : Type 1} → statement M
 gain-one-spec =

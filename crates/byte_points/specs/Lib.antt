@@ -1,0 +1,2 @@
+pub mod BytePoints
+pub mod Few

@@ -1,0 +1,81 @@
+-- Lists of calls, and the ledger (document 01, "Fold session", second paragraph). Assumes nothing.
+use Prim.Native.Nat.{ℕ, _+_}
+use mathlib.Core.Bool.{Bool, true, false}
+use mathlib.Core.List.{List, [], _∷_, _++_}
+use lib.Dec.{ltb}
+use lib.ListN.{length}
+use Rattle.algebra.specs.Words.{unreduced}
+use Rattle.field.specs.Field.{p}
+use Rattle.table.specs.Refusals.{_gives_, verdict, leaves}
+use Rattle.plan.specs.declared.Plan.{Plan}
+use Rattle.plan.specs.Plan.{capacity, foldOf}
+use Rattle.ledger.specs.Session.{State, state, sessionOf, feedStep, closeStep}
+
+-- a call's kind and piece
+pub data Call : Type 0 where
+  feed : List ℕ → Call
+  close : Call
+
+-- a list of calls, one after another: all answers, and what is left at the end
+abbrev pub run {ℓ} : {C A : Type 0} {S : Type ℓ} → (C → S → A × S) → List C → S → List A × S
+run step [] s = ([], s)
+run step (c ∷ cs) s = (step c s .0 ∷ run step cs (step c s .1) .0, run step cs (step c s .1) .1)
+
+-- the session: what the contracts of feed and close say
+abbrev pub sessionStep : Call → State → ℕ × State
+sessionStep (feed piece) st = feedStep st piece
+sessionStep close st = closeStep st
+
+-- "It keeps the accepted pieces' words, joined in order, none at first, and whether it is closed, at first not"
+pub record Ledger : Type 0 where
+  pub words : List ℕ
+  pub closed : Bool
+
+abbrev pub empty : Ledger
+empty = record { words = []; closed = false }
+
+-- "Feed: 10 where it is closed; else 5 where a word of the piece is not below p; else 8 where the joined words and the piece together
+-- are more than the table has"
+abbrev pub ledgerFeed : Plan → List ℕ → Ledger → ℕ
+ledgerFeed plan piece l =
+    verdict
+    (l .closed gives 10
+    ∷ unreduced p piece gives 5
+    ∷ ltb (capacity plan) (length (l .words) + length piece) gives 8
+    ∷ [])
+
+-- "Close: 10 where it is closed; else 9 where the joined words are fewer than the table has"
+abbrev pub ledgerClose : Plan → Ledger → ℕ
+ledgerClose plan l = verdict (l .closed gives 10 ∷ ltb (length (l .words)) (capacity plan) gives 9 ∷ [])
+
+-- its answer to a call
+abbrev pub ledgerAnswer : Plan → Call → Ledger → ℕ
+ledgerAnswer plan (feed piece) l = ledgerFeed plan piece l
+ledgerAnswer plan close l = ledgerClose plan l
+
+-- "accepted, and the piece is joined on"; "accepted, and it is closed"
+abbrev pub entered : Call → Ledger → Ledger
+entered (feed piece) l = record { words = l .words ++ piece; closed = l .closed }
+entered close l = record { words = l .words; closed = true }
+
+-- what a ledger that is told a call's answer then holds; "a refused call changes nothing in it"
+abbrev pub told : Call → ℕ → Ledger → Ledger
+told c answer l = leaves answer (entered c l) l
+
+abbrev pub ledgerStep : Plan → Call → Ledger → ℕ × Ledger
+ledgerStep plan c l = (ledgerAnswer plan c l, told c (ledgerAnswer plan c l) l)
+
+-- "Its session has open's arguments, unused coordinates 0, the count of joined words as words taken, and its own closed", beside its
+-- out, at each place "the sum over the 2^k rows y of scale·weight[y]·(word of place i of row y), a word not joined being 0"
+abbrev pub ledgerState : Plan → Ledger → State
+ledgerState plan l = state (sessionOf plan (length (l .words)) (l .closed)) (foldOf plan (l .words))
+
+-- what a ledger holds that is told each call and its answer
+abbrev pub toldAll : List Call → List ℕ → Ledger → Ledger
+toldAll [] vs l = l
+toldAll (c ∷ cs) [] l = l
+toldAll (c ∷ cs) (v ∷ vs) l = toldAll cs vs (told c v l)
+
+-- its words: the pieces that were accepted, by the answers, joined in order
+abbrev pub joined : List Call → List ℕ → List ℕ
+joined cs vs = toldAll cs vs empty .words

@@ -1,0 +1,4 @@
+pub mod Session
+pub mod Ledger
+pub mod Demand3
+pub mod Inner

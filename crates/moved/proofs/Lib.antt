@@ -1,0 +1,4 @@
+pub mod Moving
+mod RowByRow
+pub mod PlaceSums
+mod PlaceByPlace

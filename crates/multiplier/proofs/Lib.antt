@@ -1,0 +1,2 @@
+mod ByHalves
+mod ByRows

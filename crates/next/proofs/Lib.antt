@@ -1,0 +1,2 @@
+mod Pairs
+pub mod Answers

@@ -1,0 +1,2 @@
+pub mod SplitTests
+pub mod Inner
