@@ -8,7 +8,12 @@ use Rattle.algebra.specs.Quartic.{quartic, constant}
 use Rattle.algebra.proofs.Residues.{mul-mod-mod}
 use Rattle.field.specs.Field.{p, field, base}
 use Rattle.field.proofs.Laws.{field-ring, base-mul}
-use Rattle.lowering.specs.Lowering.{unit, unitInverse, square}
+use Rattle.field.specs.Inner.{unit}
+use Rattle.lowering.specs.Lowering.{unitInverse}
+
+-- 2⁶⁴ modulo p
+abbrev square : ℕ
+square = 1172168163
 
 -- w · 2⁶⁴ divided by 2³² is w · 2³²
 pub square-lowered : (w : ℕ) → w * square * unitInverse % p ≡ w * unit % p

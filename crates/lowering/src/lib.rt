@@ -6,7 +6,8 @@ ghost use mathlib.Core.Path.{_≡_};
 ghost use Prim.Native.Nat.{_+_, _-_, _*_, _<_, _≤_, _%_};
 ghost use Rattle.algebra.specs.Ring.{Ops};
 ghost use Rattle.field.specs.Field.{p, field, base, fromWords, Reduced, Holds};
-ghost use Rattle.lowering.specs.Lowering.{unit, unitInverse};
+ghost use Rattle.field.specs.Inner.{unit};
+ghost use Rattle.lowering.specs.Lowering.{unitInverse};
 
 // The inverse of p modulo 2^32.
 const INVERSE: u64 = 2281701377;

@@ -1,4 +1,4 @@
--- Whole rows: two and four by the weights that one and two coordinates make, sixteen by a table of them. Assumes nothing.
+-- Whole rows: two and four by the weights that one and two coordinates make, thirty-two by a table of them. Assumes nothing.
 use mathlib.Core.Path.{_≡_, sym, ap, ap₂, _∙_}
 use mathlib.Core.Bool.{false}
 use Prim.Native.Nat.{ℕ, _+_, _-_, _*_, _^_, _≤_, _<_}
@@ -73,10 +73,10 @@ module _ (weight : Element) (rest words : List ℕ) (inner : ℕ) {z0 high low :
       rw (read-as _ h0, read-as _ h2, read-as _ h1, read-as _ h3, read-as _ hl, read-as _ hh, read-as _ hz0, read-as _ hz1)
       (sym (four inner _ _ _ (λ t. base (getD words t 0)) y))
 
--- four of sixty-four rows are there from row 4 j on
-pub four-within : (inner j n : ℕ) → j < 16 → 64 * inner ≤ n → 4 * j * inner + 4 * inner ≤ n
+-- four of thirty-two rows are there from row 4 j on
+pub four-within : (inner j n : ℕ) → j < 8 → 32 * inner ≤ n → 4 * j * inner + 4 * inner ≤ n
 four-within inner j n more all =
-    let m : (4 * j + 4) * inner ≤ 64 * inner = mul-le-mul-right inner (omega arith) in
+    let m : (4 * j + 4) * inner ≤ 32 * inner = mul-le-mul-right inner (omega arith) in
     omega (arith, add-mul (4 * j) 4 inner)
 
 -- the rows' sum by a table of their weights, four rows at a time
@@ -114,12 +114,12 @@ module _ (weights words : List ℕ) (inner : ℕ) where
         (row 3 _ i a3 (omega arith) e3))
         ∙ sym (sum-split field-ring 4 (4 * j) (term i)) ∙ ap (λ n. sumTo field n (term i)) q)
 
-  -- all sixteen rows, by the table of weight·eq of four coordinates
+  -- all thirty-two rows, by the table of weight·eq of five coordinates
   pub all-rows : (weight : Element) (rest : List ℕ) {ws w : List ℕ}
-      → weights ≡ tableWords 64 (λ y. field .mul (fromWords weight) (eqAt field (elements rest 0 6) y))
-      → Gained 0 inner (λ i. sumTo field 64 (term i)) ws w → Gained 0 inner (wholeRows 6 rest weight inner words) ws w
+      → weights ≡ tableWords 32 (λ y. field .mul (fromWords weight) (eqAt field (elements rest 0 5) y))
+      → Gained 0 inner (λ i. sumTo field 32 (term i)) ws w → Gained 0 inner (wholeRows 5 rest weight inner words) ws w
   unfolding foldAt rowTerm elements
   all-rows weight rest table d =
       gained-as _ d (λ i h.
-      sum-ext field-ring 64 _ _ (λ y b.
-      ap (λ e. field .mul e (base (getD words (y * inner + i) 0))) (ap (λ ws. elementAt ws y) table ∙ table-at 64 _ y b)))
+      sum-ext field-ring 32 _ _ (λ y b.
+      ap (λ e. field .mul e (base (getD words (y * inner + i) 0))) (ap (λ ws. elementAt ws y) table ∙ table-at 32 _ y b)))

@@ -38,11 +38,11 @@ Scattered from rest weight words out w =
 abbrev pub wholeRows : ℕ → List ℕ → Element → ℕ → List ℕ → ℕ → Ext
 wholeRows n rest weight inner words i = foldAt field Prefix Plain inner (elements rest 0 n) (fromWords weight) (λ t. base (getD words t 0)) i
 
--- a table of the weights of a block of sixty-four rows and the rows' words, all reduced, and an element of out for each word of a row
+-- a table of the weights of a block of thirty-two rows and the rows' words, all reduced, and an element of out for each word of a row
 pub record Weighs (weights words out : List ℕ) : Type 0 where
-  pub weights-there : length weights ≡ 256
+  pub weights-there : length weights ≡ 128
   pub weights-below : unreduced p weights ≡ false
-  pub rows-are : Rows 64 (entries out) out words
+  pub rows-are : Rows 32 (entries out) out words
   pub out-below : unreduced p out ≡ false
 
 -- the word of place i of row y by the row's weight

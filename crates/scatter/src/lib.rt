@@ -18,7 +18,7 @@ ghost use Rattle.scatter.specs.Scatter.{Scatters, Scattered, wholeRows, 
 //
 //     weight  ->  weight (1 - z) for the rows of the low half, weight z for those of the high half
 //
-// and whole rows of the last six coordinates go sixty-four at a time, a block, by a table of their weights.
+// and whole rows of the last five coordinates go thirty-two at a time, a block, by a table of their weights.
 pub fn scatter(words: &[u32], at: usize, rest: &[u32], weight: Element, out: &mut [u32])
     requires { ⌜ Scatters at (now rest) weight (now words) (now out) ⌝ }
     ensures { λ _. ⌜ Scattered at (now (rest .entry)) weight (now (words .entry)) (now (out .entry)) (now (out .exit)) ⌝ }
@@ -36,7 +36,7 @@ pub fn scatter(words: &[u32], at: usize, rest: &[u32], weight: Element, out: &mu
         four_rows(words, rest, weight, out);
         return;
     }
-    if left == 6 && words.len() == 64 * inner {
+    if left == 5 && words.len() == 32 * inner {
         block_rows(words, rest, weight, out);
         return;
     }
@@ -69,28 +69,28 @@ fn four_rows(words: &[u32], rest: &[u32], weight: Element, out: &mut [u32])
     kernel::gain_rows(out, words, out.len() / 4, low.sub(w1), w1, high.sub(w3), w3);
 }
 
-// A block of sixty-four whole rows, by the table of their weights.
+// A block of thirty-two whole rows, by the table of their weights.
 fn block_rows(words: &[u32], rest: &[u32], weight: Element, out: &mut [u32])
-    requires { ⌜ Coordinates 6 (now rest) × Reduced weight ⌝ }
-    requires { ⌜ Rows 64 (entries (now out)) (now out) (now words) × (unreduced p (now out) ≡ false) ⌝ }
+    requires { ⌜ Coordinates 5 (now rest) × Reduced weight ⌝ }
+    requires { ⌜ Rows 32 (entries (now out)) (now out) (now words) × (unreduced p (now out) ≡ false) ⌝ }
     ensures { λ _. ⌜ Gained 0 (entries (now (out .entry)))
-        (wholeRows 6 (now (rest .entry)) weight (entries (now (out .entry))) (now (words .entry)))
+        (wholeRows 5 (now (rest .entry)) weight (entries (now (out .entry))) (now (words .entry)))
         (now (out .entry)) (now (out .exit)) ⌝ }
 {
     let mut weights = room();
-    point::equality::fill(&mut weights, rest, 6, BitOrder::Msb, weight);
+    point::equality::fill(&mut weights, rest, 5, BitOrder::Msb, weight);
     by_table(words, &weights, out);
 }
 
-// Sixty-four rows, each by its element of the table, four at a time.
+// Thirty-two rows, each by its element of the table, four at a time.
 fn by_table(words: &[u32], weights: &[u32], out: &mut [u32])
     requires { ⌜ Weighs (now weights) (now words) (now out) ⌝ }
     ensures { λ _. ⌜ Gained 0 (entries (now (out .entry)))
-        (λ i. sumTo field 64 (rowTerm (now (weights .entry)) (entries (now (out .entry))) (now (words .entry)) i))
+        (λ i. sumTo field 32 (rowTerm (now (weights .entry)) (entries (now (out .entry))) (now (words .entry)) i))
         (now (out .entry)) (now (out .exit)) ⌝ }
 {
     let inner = out.len() / 4;
-    for j in 0..16 {
+    for j in 0..8 {
         let y = 4 * j;
         let start = y * inner;
         kernel::gain_rows(
@@ -105,8 +105,8 @@ fn by_table(words: &[u32], weights: &[u32], out: &mut [u32])
     }
 }
 
-fn room() -> [u32; 256]
-    ensures { λ r. ⌜ r ≡ replicate 256 0 ⌝ }
+fn room() -> [u32; 128]
+    ensures { λ r. ⌜ r ≡ replicate 128 0 ⌝ }
 {
-    [0u32; 256]
+    [0u32; 128]
 }

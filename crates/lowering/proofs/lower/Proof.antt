@@ -1,13 +1,19 @@
 -- `lowering::lower` meets its contract, by the laws of division by 2³² at the field's constants. Assumes nothing.
+use Prim.Native.Nat.{ℕ}
 use mathlib.Core.Path.{refl, sym, _∙_}
 use native.Mathlib.Nat.{add-mod-right}
 use native.Mathlib.Omega.{arith}
 use borrow.Author.Needs.{needs}
 use Rattle.algebra.proofs.Lowering.{lowers, lowered, high-below, multiple-below}
 use Rattle.field.specs.Field.{p, p-pos}
-use Rattle.lowering.specs.Lowering.{unit, unitInverse, inverse}
+use Rattle.field.specs.Inner.{unit}
+use Rattle.lowering.specs.Lowering.{unitInverse}
 use Rattle.lowering.proofs.lower.Statement.{statement}
 use Rattle.lowering.proofs.lower.Tie as tie
+
+-- p · inverse is 1 modulo 2³²
+abbrev inverse : ℕ
+inverse = 2281701377
 
 less-requires : tie.Need-less-requires
 less-requires c κs = (high-below unit p p-pos (omega arith) _ (c .pre), omega arith)

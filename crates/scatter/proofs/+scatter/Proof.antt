@@ -103,14 +103,14 @@ module _ (t : ℕ) where
       let whole = c .before in
       let last = whole .before in
       let s = begin (last .before .before) .pre .1 in
-      ((rw (last .if5 .taken) at (s .rest-is), s .weight-is), (rows-fit s 6 (last .if5 .taken) (eqb-true _ _ (whole .if6 .taken)), s .out-below))
+      ((rw (last .if5 .taken) at (s .rest-is), s .weight-is), (rows-fit s 5 (last .if5 .taken) (eqb-true _ _ (whole .if6 .taken)), s .out-below))
 
   returns-4 : scatter-lts.Need-returns-4 (calls t) (scatter-at t) scatter.Post
   returns-4 c =
       let gained = c .before .before in
       let whole = gained .before .before in
       let last = whole .before in
-      rows-scattered (begin (last .before .before) .pre .1) 6 (last .if5 .taken) (eqb-true _ _ (whole .if6 .taken))
+      rows-scattered (begin (last .before .before) .pre .1) 5 (last .if5 .taken) (eqb-true _ _ (whole .if6 .taken))
       (gained .block-rows .ensures) (λ y h. refl)
 
   read-requires : scatter-lts.Need-read-requires (calls t) (scatter-at t) scatter.Post
@@ -211,7 +211,7 @@ pub +scatter-spec : {M : Type 1} → statement M
     (λ c. search needs)
     (returns-3 t)
     (λ c. let s = begin t (c .before .before) .pre .1 in
-    let few : 2 ^ 6 * entries (begin t (c .before .before) .args .out .now) ≤ 2 ^ most = rw (c .if5 .taken) at (s .small) in
+    let few : 2 ^ 5 * entries (begin t (c .before .before) .args .out .now) ≤ 2 ^ most = rw (c .if5 .taken) at (s .small) in
     omega (arith, s .room, few))
     (block-rows-requires t)
     (λ c. search needs)

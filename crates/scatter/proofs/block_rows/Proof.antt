@@ -26,8 +26,8 @@ by-table-requires : tie.Need-by-table-requires
 by-table-requires c κs =
     let table = filled c .fill .ensures in
     record {
-      weights-there = ap length table ∙ table-length 64 _;
-      weights-below = ap (unreduced p) table ∙ unreduced-table 64 _;
+      weights-there = ap length table ∙ table-length 32 _;
+      weights-below = ap (unreduced p) table ∙ unreduced-table 32 _;
       rows-are = begin c .pre .1 .0;
       out-below = begin c .pre .1 .1;
     }

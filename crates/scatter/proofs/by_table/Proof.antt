@@ -14,10 +14,10 @@ use Rattle.scatter.proofs.by_table.Statement.{statement}
 use Rattle.scatter.proofs.by_table.Tie as tie
 
 abbrev Inv-loop : tie.InvT-loop
-Inv-loop words weights out₀ inner j₀ out j = (j ≤ 16) × Gained 0 inner (λ i. sumTo field (4 * j) (rowTerm weights inner words i)) out₀ out
+Inv-loop words weights out₀ inner j₀ out j = (j ≤ 8) × Gained 0 inner (λ i. sumTo field (4 * j) (rowTerm weights inner words i)) out₀ out
 
 abbrev μ-loop : tie.MeasureT-loop
-μ-loop words weights out₀ inner j₀ out j = 16 - j
+μ-loop words weights out₀ inner j₀ out j = 8 - j
 
 loop-holds : tie.Need-loop-holds Inv-loop μ-loop
 loop-holds c = (omega arith, no-rows _ _ _ _ (c .before .before .before .pre .out-below))
@@ -72,7 +72,7 @@ loop-again c =
 returns : tie.Need-returns Inv-loop μ-loop
 returns c =
     let at = c .before in
-    let q : at .loop .j ≡ 16 = omega arith in
+    let q : at .loop .j ≡ 8 = omega arith in
     rw q at (at .loop .inv .1)
 
 pub by-table-spec : {M : Type 1} → statement M
