@@ -53,7 +53,7 @@ pub extern "C" fn host_session_feed(
     if is_no_session(head[2], head[3], head[5]) {
         return NO_SESSION;
     }
-    let fed = session::feed(read(head, coordinates), piece, out);
+    let fed = session::feed(session_of(head, coordinates), piece, out);
     keep(fed, head, coordinates)
 }
 
@@ -66,12 +66,28 @@ pub extern "C" fn host_session_close(
     if is_no_session(head[2], head[3], head[5]) {
         return NO_SESSION;
     }
-    let closed = session::close(read(head, coordinates), out);
+    let closed = session::close(session_of(head, coordinates), out);
     keep(closed, head, coordinates)
 }
 
+// The element goes to `element`, where the call is accepted.
+#[no_mangle]
+pub extern "C" fn host_session_read(
+    place: usize,
+    out: &mut [u32],
+    head: &mut [u32; HEAD],
+    coordinates: &mut [u32; COORDINATES],
+    element: &mut [u32; 4],
+) -> u32 {
+    if is_no_session(head[2], head[3], head[5]) {
+        return NO_SESSION;
+    }
+    let read = session::read(session_of(head, coordinates), place, out);
+    host_values::answers::give(read, element)
+}
+
 // The session of these words.
-fn read(head: &[u32; HEAD], coordinates: &[u32; COORDINATES]) -> Session {
+fn session_of(head: &[u32; HEAD], coordinates: &[u32; COORDINATES]) -> Session {
     let plan = Plan {
         n: size(head[0]),
         k: size(head[1]),

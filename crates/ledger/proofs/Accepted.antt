@@ -1,14 +1,16 @@
 -- What accepted calls say of their operands. Assumes nothing.
 use mathlib.Core.Path.{_≡_}
-use Prim.Native.Nat.{ℕ, _+_, _-_, _*_, _^_, _≤_}
+use mathlib.Core.Bool.{false}
+use Prim.Native.Nat.{ℕ, _+_, _-_, _*_, _^_, _≤_, _<_}
 use native.Mathlib.Nat.{le-trans}
 use native.Mathlib.Omega.{arith}
 use mathlib.Core.List.{List}
 use lib.ListN.{length}
 use lib.Pow.{pow-mono}
-use borrow.Author.Tests.{ltb-false}
+use borrow.Author.Tests.{ltb-false, leb-false}
+use Rattle.algebra.specs.Words.{unreduced}
 use Rattle.algebra.proofs.Words.{unreduced-append, unreduced-zeros}
-use Rattle.field.specs.Field.{p-pos}
+use Rattle.field.specs.Field.{p, p-pos}
 use Rattle.table.specs.Table.{entries}
 use Rattle.table.specs.Refusals.{most}
 use Rattle.table.proofs.Tests.{whole, same}
@@ -16,7 +18,7 @@ use Rattle.table.proofs.Verdicts.{Clear, clear}
 use Rattle.plan.specs.declared.Plan.{Plan}
 use Rattle.plan.specs.Plan.{places}
 use Rattle.plan.specs.Sound.{Sound, Takes}
-use Rattle.ledger.specs.Session.{State, Args, planned, openTests, openAnswer, feedTests, feedAnswer}
+use Rattle.ledger.specs.Session.{State, Args, planned, openTests, openAnswer, feedTests, feedAnswer, readTests, readAnswer}
 
 -- out has an element for each place
 room-is : (n : ℕ) (out : List ℕ) → 4 * entries out ≡ length out → entries out ≡ n → length out ≡ 4 * n
@@ -67,3 +69,13 @@ fed st piece e =
 -- so the count of words taken is far from the largest number
 pub few-taken : {plan : Plan} {taken : ℕ} {piece out : List ℕ} → Takes plan taken piece out → taken + length piece ≤ 2 ^ most
 few-taken d = le-trans (d .within) (pow-mono (d .sound .small))
+
+-- read: the place's words are in out, and below p
+pub readable : (st : State) (place : ℕ) → 0 ≡ readAnswer st place .number
+    → (4 * place + 3 < length (st .out)) × (unreduced p (st .out) ≡ false)
+unfolding readAnswer
+readable st place e =
+    let h : Clear (readTests st place) = clear (readTests st place) tt e in
+    let out = h .1 .1 .1 .1 .1 .1 .1 in
+    let room = room-is _ (st .out) (whole (st .out) (out .0)) (same (entries (st .out)) (places (st .session .plan)) (out .1 .0)) in
+    (omega (arith, room, leb-false (places (st .session .plan)) place (out .1 .1 .1 .0)), out .1 .1 .0)

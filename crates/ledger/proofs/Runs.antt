@@ -15,6 +15,11 @@ module _ {C A S L : Type 0} (stepS : C → S → A × S) (stepL : C → L → A 
       let later = runs cs _ _ (now .1) in
       (ap₂ (λ v vs. v ∷ vs) (now .0) (later .0), later .1)
 
+-- a call that enters nothing
+pub unchanged : {A : Type 0} (n : ℕ) (x : A) → leaves n x x ≡ x
+unchanged zero x = refl
+unchanged (suc n) x = refl
+
 -- one call of both, with one number: refused, nothing changes in either
 pub settle : {S L : Type 0} (R : S → L → Type 0) {m n : ℕ} {s s′ : S} {l l′ : L} → m ≡ n → R s l → (n ≡ 0 → R s′ l′)
     → R (leaves m s′ s) (leaves n l′ l)

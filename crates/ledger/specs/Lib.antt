@@ -1,4 +1,3 @@
 pub mod Session
 pub mod Ledger
 pub mod Demand3
-pub mod Inner

@@ -1,8 +1,9 @@
--- The fold session (document 01, "Fold session"; "Refused calls": Open, Feed, Close): what each call answers and leaves. Assumes nothing.
+-- The fold session (document 01, "Fold session"; "Refused calls": Open, Feed, Close; document 02, (a): Read): what each call answers and
+-- leaves. Assumes nothing.
 use Prim.Native.Nat.{ℕ, suc, _+_, _-_, _*_}
 use mathlib.Core.Bool.{Bool, true, false, not, _&&_, _||_}
 use mathlib.Core.List.{List, [], _∷_, _++_}
-use lib.Dec.{eqb, ltb}
+use lib.Dec.{eqb, ltb, leb}
 use lib.ListN.{length, drop, replicate}
 use Rattle.algebra.specs.Words.{unreduced}
 use Rattle.multilinear.specs.declared.Side.{Side}
@@ -11,10 +12,10 @@ use Rattle.multilinear.specs.declared.Weight.{Weight}
 use Rattle.multilinear.specs.declared.Weight.the-variants.{Plain}
 use Rattle.field.specs.Field.{p}
 use Rattle.field.specs.declared.Element.{Element}
-use Rattle.table.specs.Table.{entries}
-use Rattle.table.specs.Refusals.{Test, _gives_, verdict, leaves, most, splits, tooMany, rowsDiffer}
+use Rattle.table.specs.Table.{elementAt, entries}
+use Rattle.table.specs.Refusals.{Outcome, Test, _gives_, verdict, leaves, evaluated, most, splits, tooMany, rowsDiffer}
 use Rattle.plan.specs.declared.Plan.{Plan}
-use Rattle.plan.specs.Plan.{planOf, capacity, gainedBy}
+use Rattle.plan.specs.Plan.{planOf, places, capacity, gainedBy}
 use Rattle.ledger.specs.declared.Session.{Session}
 
 -- a session and the out beside it
@@ -80,16 +81,29 @@ unfoldable pub nonzero : List ℕ → Bool
 nonzero [] = false
 nonzero (w ∷ ws) = not (eqb w 0) || nonzero ws
 
--- 11: n over 20, k over n, taken over 2^n, a part unreduced, unused coordinate not 0, closed short of 2^n
-abbrev pub recordTests : Session → List Test
-recordTests s =
+-- 11: n over 20, k over n, taken over the table's words, a part unreduced, unused coordinate not 0, closed short of the table; of a table
+-- of so many words, and of coordinates that are used up to word `used`
+abbrev pub partTests : Session → ℕ → ℕ → List Test
+partTests s words used =
     ltb most (s .plan .n) gives 11
     ∷ ltb (s .plan .n) (s .plan .k) gives 11
-    ∷ ltb (capacity (s .plan)) (s .taken) gives 11
+    ∷ ltb words (s .taken) gives 11
     ∷ unreduced p (s .plan .scale .c) gives 11
     ∷ unreduced p (s .plan .coordinates) gives 11
-    ∷ nonzero (drop (4 * s .plan .k) (s .plan .coordinates)) gives 11
-    ∷ (s .closed && ltb (s .taken) (capacity (s .plan))) gives 11
+    ∷ nonzero (drop used (s .plan .coordinates)) gives 11
+    ∷ (s .closed && ltb (s .taken) words) gives 11
+    ∷ []
+
+-- of 2^n words, and of k coordinates
+abbrev pub recordTests : Session → List Test
+recordTests s = partTests s (capacity (s .plan)) (4 * s .plan .k)
+
+-- 4 (out), 5 (any word of out)
+abbrev pub outTests : State → List Test
+outTests st =
+    splits (st .out) gives 4
+    ∷ rowsDiffer (st .out) (st .session .plan .n - st .session .plan .k) gives 4
+    ∷ unreduced p (st .out) gives 5
     ∷ []
 
 -- Feed: 11, 10, 4, 5 (piece or out), 8 (piece passes 2^n)
@@ -97,10 +111,8 @@ abbrev pub feedTests : State → List ℕ → List Test
 feedTests st piece =
     recordTests (st .session)
     ++ st .session .closed gives 10
-    ∷ splits (st .out) gives 4
-    ∷ rowsDiffer (st .out) (st .session .plan .n - st .session .plan .k) gives 4
-    ∷ unreduced p (st .out) gives 5
-    ∷ unreduced p piece gives 5
+    ∷ outTests st
+    ++ unreduced p piece gives 5
     ∷ ltb (capacity (st .session .plan)) (st .session .taken + length piece) gives 8
     ∷ []
 
@@ -109,10 +121,8 @@ abbrev pub closeTests : State → List Test
 closeTests st =
     recordTests (st .session)
     ++ st .session .closed gives 10
-    ∷ splits (st .out) gives 4
-    ∷ rowsDiffer (st .out) (st .session .plan .n - st .session .plan .k) gives 4
-    ∷ unreduced p (st .out) gives 5
-    ∷ ltb (st .session .taken) (capacity (st .session .plan)) gives 9
+    ∷ outTests st
+    ++ ltb (st .session .taken) (capacity (st .session .plan)) gives 9
     ∷ []
 
 unfoldable pub feedAnswer : State → List ℕ → ℕ
@@ -139,3 +149,15 @@ closeLeaves st = leaves (closeAnswer st) (state (sessionOf (st .session .plan) (
 -- what close returns and leaves
 abbrev pub closeStep : State → ℕ × State
 closeStep st = (closeAnswer st, closeLeaves st)
+
+-- Read: 11, 4, 5 (any word of out), 14 (a place at or above 2^(n-k)); after close as before it, so no 10
+abbrev pub readTests : State → ℕ → List Test
+readTests st place = recordTests (st .session) ++ outTests st ++ leb (places (st .session .plan)) place gives 14 ∷ []
+
+-- the sum of one place, as out has it
+unfoldable pub readAnswer : State → ℕ → Outcome
+readAnswer st place = evaluated (verdict (readTests st place)) (elementAt (st .out) place)
+
+-- what read returns and leaves: reads "alter neither session nor out"
+abbrev pub readStep : State → ℕ → Outcome × State
+readStep st place = (readAnswer st place, st)

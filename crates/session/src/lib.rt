@@ -3,6 +3,7 @@ use field::Element;
 use ledger::Session;
 use multilinear::Side;
 use multilinear::Weight;
+use table::Evaluation;
 use table::Refusal;
 use table::Verdict;
 ghost use mathlib.Core.Path.{_≡_};
@@ -10,11 +11,12 @@ ghost use mathlib.Core.Bool.{_&&_};
 ghost use Prim.Native.Nat.{_*_, min};
 ghost use lib.Dec.{ltb};
 ghost use lib.ListN.{drop};
-ghost use Rattle.table.specs.Refusals.{answer, verdict, most};
+ghost use Rattle.table.specs.Refusals.{answer, outcome, verdict, most};
 ghost use Rattle.table.specs.Inner.{onward};
-ghost use Rattle.ledger.specs.Session.{args, noSession, nonzero, openTests, state, openStep, feedAnswer, feedStep, closeAnswer, closeStep};
-ghost use Rattle.ledger.specs.Inner.{readyTests};
+ghost use Rattle.ledger.specs.Session.{args, noSession, nonzero, state, openTests, openStep, feedAnswer, feedStep, closeAnswer, closeStep};
+ghost use Rattle.ledger.specs.Session.{partTests, outTests, readAnswer};
 ghost use Rattle.session.specs.Settled.{settled};
+ghost use Rattle.session.specs.Inner.{readyTests};
 
 // An answer with the session beside it.
 pub struct Settled {
@@ -100,6 +102,18 @@ pub fn close(s: Session, out: &[u32]) -> Settled
     }
 }
 
+// The sum of one place, of the words that have come: scale·weight·word over its rows, a word that is missing counting as 0. In an open
+// session and after its close; session and out stay as they are.
+pub fn read(s: Session, place: usize, out: &[u32]) -> Evaluation
+    ensures { λ r. ⌜ outcome r ≡ readAnswer (state s (now (out .entry))) place ⌝ }
+{
+    let tested = test_read(s, place, out);
+    match tested {
+        Verdict::Refused(refusal) => Evaluation::Refused(refusal),
+        Verdict::Accepted => Evaluation::Value(table::read(out, place).value()),
+    }
+}
+
 fn test_open(n: usize, scale: Element, point: &[u32], out: &[u32]) -> Verdict
     ensures { λ r. ⌜ answer r ≡ verdict (openTests n scale (now (point .entry)) (now (out .entry))) ⌝ }
 {
@@ -139,9 +153,39 @@ fn test_close(s: Session, out: &[u32]) -> Verdict
     test_ready(s, words, out).refuse_if(s.taken < words, Refusal::Missing)
 }
 
+// 14 where out has no such element: it was tested to have 2^(n-k).
+fn test_read(s: Session, place: usize, out: &[u32]) -> Verdict
+    ensures { λ r. ⌜ answer r ≡ readAnswer (state s (now (out .entry))) place .number ⌝ }
+{
+    let words = table::rows(table::min(s.plan.n, table::MOST));
+    let tested = test_record(s, words);
+    refuse_out(tested, s, out).refuse_if(out.len() / 4 <= place, Refusal::NoPlace)
+}
+
 // The tests that feed and close share, of a table of so many words.
 fn test_ready(s: Session, words: usize, out: &[u32]) -> Verdict
     ensures { λ r. ⌜ answer r ≡ onward 0 (readyTests (state s (now (out .entry))) words (4 * min (s .plan .k) most)) ⌝ }
+{
+    let tested = test_record(s, words).refuse_if(s.closed, Refusal::Closed);
+    refuse_out(tested, s, out)
+}
+
+// 4, 5, where none was given yet, for the out beside a session.
+fn refuse_out(tested: Verdict, s: Session, out: &[u32]) -> Verdict
+    ensures { λ r. ⌜ answer r ≡ onward (answer tested) (outTests (state s (now (out .entry)))) ⌝ }
+{
+    tested
+        .refuse_if(table::splits(out), Refusal::Lengths)
+        .refuse_if(
+            table::rows_differ(out, table::remaining(s.plan.n, s.plan.k)),
+            Refusal::Lengths,
+        )
+        .refuse_if(field::unreduced(out), Refusal::Unreduced)
+}
+
+// 11, of a table of so many words.
+fn test_record(s: Session, words: usize) -> Verdict
+    ensures { λ r. ⌜ answer r ≡ onward 0 (partTests s words (4 * min (s .plan .k) most)) ⌝ }
 {
     let scale = s.plan.scale.c;
     let coordinates = s.plan.coordinates;
@@ -158,13 +202,6 @@ fn test_ready(s: Session, words: usize, out: &[u32]) -> Verdict
         .refuse_if(bad_point, Refusal::Broken)
         .refuse_if(bad_rest, Refusal::Broken)
         .refuse_if(short, Refusal::Broken)
-        .refuse_if(s.closed, Refusal::Closed)
-        .refuse_if(table::splits(out), Refusal::Lengths)
-        .refuse_if(
-            table::rows_differ(out, table::remaining(s.plan.n, s.plan.k)),
-            Refusal::Lengths,
-        )
-        .refuse_if(field::unreduced(out), Refusal::Unreduced)
 }
 
 // Closed before all words are taken.

@@ -7,7 +7,7 @@ use lib.ListN.{getD}
 use Rattle.field.specs.declared.Value.{Value}
 use Rattle.table.specs.Refusals.{number, answer, Outcome, valueWords, outcome, leaves}
 use Rattle.table.specs.declared.Refusal.{Refusal}
-use Rattle.table.specs.declared.Refusal.the-variants.{Split, NotPower, TooMany, Lengths, Unreduced, Constant, NoVertex, TooLong, Missing, Closed, Broken, NotFrame, Coordinates}
+use Rattle.table.specs.declared.Refusal.the-variants.{Split, NotPower, TooMany, Lengths, Unreduced, Constant, NoVertex, TooLong, Missing, Closed, Broken, NotFrame, Coordinates, NoPlace}
 use Rattle.table.specs.declared.Verdict.{Verdict}
 use Rattle.table.specs.declared.Verdict.the-variants.{Accepted, Refused}
 use Rattle.table.specs.declared.Evaluation.{Evaluation}
@@ -30,6 +30,7 @@ verdicts =
     ∷ Refused Broken
     ∷ Refused NotFrame
     ∷ Refused Coordinates
+    ∷ Refused NoPlace
     ∷ []
 
 found : (v : Verdict) → getD verdicts (answer v) Accepted ≡ v
@@ -48,6 +49,7 @@ found (Refused Closed) = refl
 found (Refused Broken) = refl
 found (Refused NotFrame) = refl
 found (Refused Coordinates) = refl
+found (Refused NoPlace) = refl
 
 -- answers of one number are one answer
 pub answer-one : (v w : Verdict) → answer v ≡ answer w → v ≡ w

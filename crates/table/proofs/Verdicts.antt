@@ -4,7 +4,7 @@ use mathlib.Core.Bool.{Bool, true, false, cond}
 use Prim.Native.Nat.{ℕ, zero, suc}
 use native.Mathlib.Omega.{arith}
 use mathlib.Core.List.{List, [], _∷_, _++_}
-use Rattle.table.specs.Refusals.{Test, number, answer, verdict}
+use Rattle.table.specs.Refusals.{Test, _gives_, number, answer, verdict}
 use Rattle.table.specs.declared.Refusal.{Refusal}
 use Rattle.table.specs.declared.Verdict.{Verdict}
 use Rattle.table.specs.declared.Verdict.the-variants.{Refused}
@@ -85,3 +85,14 @@ clear (t ∷ ts) h e = go (t .holds) (t .number) h e (clear ts)
     go b zero h e f = absurd h
     go true (suc n) h e f = absurd (omega arith)
     go false (suc n) h e f = (refl, f h e)
+
+-- tests behind one that holds do not count
+pub behind : (b : Bool) (n : ℕ) (ts us : List Test) → (b ≡ false → verdict ts ≡ verdict us) → verdict (b gives n ∷ ts) ≡ verdict (b gives n ∷ us)
+unfolding verdict
+behind true n ts us h = refl
+behind false n ts us h = h refl
+
+pub behind-all : (ts us vs : List Test) → (Clear ts → verdict us ≡ verdict vs) → verdict (ts ++ us) ≡ verdict (ts ++ vs)
+unfolding verdict
+behind-all [] us vs h = h tt
+behind-all (t ∷ ts) us vs h = behind (t .holds) (t .number) (ts ++ us) (ts ++ vs) (λ e. behind-all ts us vs (λ c. h (e, c)))

@@ -9,7 +9,7 @@ use Rattle.algebra.specs.Words.{wordsOf}
 use Rattle.field.specs.Field.{Ext}
 use Rattle.field.specs.declared.Value.{Value}
 use Rattle.table.specs.declared.Refusal.{Refusal}
-use Rattle.table.specs.declared.Refusal.the-variants.{Split, NotPower, TooMany, Lengths, Unreduced, Constant, NoVertex, TooLong, Missing, Closed, Broken, NotFrame, Coordinates}
+use Rattle.table.specs.declared.Refusal.the-variants.{Split, NotPower, TooMany, Lengths, Unreduced, Constant, NoVertex, TooLong, Missing, Closed, Broken, NotFrame, Coordinates, NoPlace}
 use Rattle.table.specs.declared.Verdict.{Verdict}
 use Rattle.table.specs.declared.Verdict.the-variants.{Accepted, Refused}
 use Rattle.table.specs.declared.Evaluation.{Evaluation}
@@ -31,6 +31,7 @@ number Closed = 10
 number Broken = 11
 number NotFrame = 12
 number Coordinates = 13
+number NoPlace = 14
 
 -- the number of a `Verdict`: 0, or the refusal's
 abbrev pub answer : Verdict → ℕ
@@ -42,13 +43,17 @@ pub record Outcome : Type 0 where
   pub number : ℕ
   pub words : List ℕ
 
+-- "its number alone"
+abbrev pub alone : ℕ → Outcome
+alone n = record { number = n; words = [] }
+
 abbrev pub valueWords : Value → List ℕ
 valueWords v = v .c0 ∷ v .c1 ∷ v .c2 ∷ v .c3 ∷ []
 
 -- number and words of an `Evaluation`
 abbrev pub outcome : Evaluation → Outcome
 outcome (evaluation.Value v) = record { number = 0; words = valueWords v }
-outcome (evaluation.Refused r) = record { number = number r; words = [] }
+outcome (evaluation.Refused r) = alone (number r)
 
 -- a test of an operation's list, and the number where it holds
 pub record Test : Type 0 where

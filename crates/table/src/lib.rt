@@ -32,6 +32,7 @@ pub enum Refusal {
     Broken,
     NotFrame,
     Coordinates,
+    NoPlace,
 }
 
 // The answer of a call that fills what it was lent.
@@ -92,6 +93,7 @@ impl Verdict {
                 Refusal::Broken => 11,
                 Refusal::NotFrame => 12,
                 Refusal::Coordinates => 13,
+                Refusal::NoPlace => 14,
             },
         }
     }

@@ -1,5 +1,5 @@
-//! The fold session in pieces beside the fold in one call, and what one feed
-//! costs.
+//! The fold session in pieces beside the fold in one call, and what one feed and
+//! one read cost.
 
 use host::{COORDINATES, HEAD};
 
@@ -16,6 +16,9 @@ type Words = ([u32; HEAD], [u32; COORDINATES]);
 /// One feed, and the variables and coordinates of its session.
 pub const FEED: &str = "session, one feed";
 pub const FED: [(usize, usize); 3] = [(MOST, 20), (MOST, 10), (MOST, 0)];
+
+/// One read of a place in such a session.
+pub const READ: &str = "session, one read";
 
 /// The name, side and weight of a session, and the fold in one call.
 const SESSIONS: [(&str, u32, u32, Option<Fold>); 6] = [
@@ -49,6 +52,11 @@ pub fn run(bench: &mut Bench, input: &Input) {
             });
         }
     }
+    for (n, k) in FED {
+        bench.case(READ, n, one_read(k), || {
+            vec![Session { input, n, k }.read()]
+        });
+    }
     // Of a feed without words the test of out is what takes time.
     let k = 2;
     bench.case("test of 2^20 words", n, String::new(), || {
@@ -69,6 +77,10 @@ fn next_value(
 
 pub fn one_feed(k: usize, count: usize) -> String {
     format!("k = {k}, {count} words")
+}
+
+pub fn one_read(k: usize) -> String {
+    format!("k = {k}")
 }
 
 fn pieces(words: usize) -> String {
@@ -101,8 +113,7 @@ impl<'a> Session<'a> {
     fn open(&self, side: u32, weight: u32, out: &mut [u32]) -> Words {
         let (mut head, mut kept) = ([0; HEAD], [0; COORDINATES]);
         let (point, n) = (self.input.coordinates(self.k), self.n as u64);
-        let answer =
-            host::session_open(point, SCALE, n, side, weight, out, &mut head, &mut kept);
+        let answer = host::session_open(point, SCALE, n, side, weight, out, &mut head, &mut kept);
         assert_eq!(answer, 0);
         (head, kept)
     }
@@ -129,6 +140,19 @@ impl<'a> Session<'a> {
                 let (mut head, mut kept) = session;
                 host::session_feed(piece, &mut out, &mut head, &mut kept)
             });
+            assert_eq!(answer, 0);
+        })
+    }
+
+    /// One read of the last place.
+    fn read(self) -> Side<'a> {
+        let mut out = vec![0; self.places()];
+        let (mut head, mut kept) = self.open(0, 0, &mut out);
+        let place = (1 << (self.n - self.k)) - 1;
+        let mut element = [0; 4];
+        Side::new(Ours, move |clock| {
+            let answer = clock
+                .each(|| host::session_read(place, &mut out, &mut head, &mut kept, &mut element));
             assert_eq!(answer, 0);
         })
     }

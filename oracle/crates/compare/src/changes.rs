@@ -4,7 +4,7 @@
 use calls::{Random, UNREDUCED};
 use host::COORDINATES;
 
-use crate::step::Kind::{Close, Feed};
+use crate::step::Kind::{Close, Feed, Read};
 use crate::step::{CLOSED, K, N, POINT, SCALE, SIDE, Step, TAKEN, WEIGHT, WORDS};
 
 pub type Change = fn(&mut Step, &mut Random);
@@ -32,10 +32,15 @@ pub const OPEN: &[Change] = &[
     |step, random| step.weight = pick(random, [3, u32::MAX]),
 ];
 
-/// Changes of a call of feed or close.
+/// Changes of a call of feed, close or read.
 pub const OPENED: &[Change] = &[
     |step, _| step.kind = Feed,
     |step, _| step.kind = Close,
+    |step, _| step.kind = Read,
+    |step, random| {
+        let places = 1 << (step.n as usize - step.point.len() / 4);
+        step.place = pick(random, [places, places + 1, 1 << 32, u64::MAX]);
+    },
     |step, random| {
         let [n, taken] = [N, TAKEN].map(|at| step.words[at]);
         let left = (1usize << n.min(20)).saturating_sub(taken as usize);

@@ -1,4 +1,5 @@
-//! The fold session: tables fed in pieces, with refused calls among them.
+//! The fold session: tables fed in pieces, with reads and refused calls among
+//! them.
 
 use calls::{Outcome, Random, expect};
 
@@ -6,14 +7,15 @@ use crate::changes::{OPEN, OPENED};
 use crate::met::Met;
 use crate::run::Input::{Number, Words};
 use crate::run::{Input, Run, call};
-use crate::step::Kind::{Close, Feed, Open};
+use crate::step::Kind::{Close, Feed, Open, Read};
 use crate::step::{Kind, NO_SESSION, Step, WORDS};
 
 /// Each call's refusals in their order.
-const REFUSALS: [(Kind, &[u32]); 3] = [
+const REFUSALS: [(Kind, &[u32]); 4] = [
     (Open, &[1, 3, 4, 5]),
     (Feed, &[11, 10, 4, 5, 8]),
     (Close, &[11, 10, 4, 5, 9]),
+    (Read, &[11, 4, 5, 14]),
 ];
 
 /// A session closed with words missing is broken: none meets 10 before 9.
@@ -26,7 +28,7 @@ struct Sessions<'a> {
 }
 
 pub fn compare(run: &mut Run) {
-    run.operation("host_session_open, _feed, _close", |run| {
+    run.operation("host_session_open, _feed, ..", |run| {
         let met = Met::new();
         let mut sessions = Sessions { run, met };
         for n in 0..=8 {
@@ -75,13 +77,16 @@ impl Sessions<'_> {
             scale: random.elements(4),
             point: random.elements(4 * k),
             piece: vec![],
+            place: 0,
             words: random.stale(WORDS),
             out: random.stale(4 << (n - k)),
+            element: random.stale(4),
         };
         self.step(&mut step);
         let mut left = &table[..];
         step.kind = Feed;
         while !left.is_empty() {
+            self.reads(&step, &table, table.len() - left.len());
             let random = &mut self.run.random;
             let length = length.unwrap_or_else(|| piece(random, n, k, left.len()));
             let (piece, after) = left.split_at(length.min(left.len()));
@@ -92,8 +97,9 @@ impl Sessions<'_> {
         self.step(&mut step);
         step.kind = Close;
         self.step(&mut step);
+        self.reads(&step, &table, table.len());
         self.whole(&step, &table);
-        for kind in [Feed, Close, Feed, Close] {
+        for kind in [Feed, Close, Read, Feed, Close, Read] {
             step.kind = kind;
             self.damaged(&step);
         }
@@ -105,7 +111,44 @@ impl Sessions<'_> {
         for _ in 0..self.run.random.below(most) {
             self.damaged(step);
         }
-        [step.words, step.out] = self.case(step).lent;
+        [step.words, step.out, step.element] = self.case(step).lent;
+    }
+
+    /// Now and then a read of a random place, beside the Rust's fold of the words
+    /// that were taken and of 0 for the rest; and calls like it, most of them
+    /// refused. None of them changes the session.
+    fn reads(&mut self, step: &Step, table: &[u32], taken: usize) {
+        let random = &mut self.run.random;
+        let seldom = if table.len() > 1 << 12 { 16 } else { 2 };
+        if random.below(seldom) > 0 {
+            return;
+        }
+        let places = step.out.len() / 4;
+        let mut step = step.clone();
+        step.kind = Read;
+        step.place = random.below(places as u32).into();
+        for _ in 0..random.below(3) {
+            self.damaged(&step);
+        }
+        let read = self.case(&step);
+        let [_, _, element] = read.lent;
+        let got = Outcome {
+            answer: read.answer,
+            lent: [element],
+        };
+
+        let mut so_far = table.to_vec();
+        so_far[taken..].fill(0);
+        let mut folds = step.folded(&so_far);
+        for fold in &mut folds {
+            let [out] = &mut fold.lent;
+            *out = out[4 * step.place as usize..][..4].to_vec();
+        }
+        let mut inputs = arguments(&step);
+        inputs.push(("place", Number(step.place)));
+        inputs.push(("table", Words(table)));
+        inputs.push(("words taken", Number(taken as u64)));
+        self.run.same(&inputs, &folds, &got);
     }
 
     /// The call with up to two changes.
@@ -119,18 +162,21 @@ impl Sessions<'_> {
         self.case(&step);
     }
 
-    fn case(&mut self, step: &Step) -> Outcome<2> {
+    fn case(&mut self, step: &Step) -> Outcome<3> {
         let refusals = step.refusals();
         let is_session = refusals[0].1 != NO_SESSION;
         self.met.note((step.kind, is_session), &refusals);
 
-        let before = [&step.words[..], &step.out];
+        let before = [&step.words[..], &step.out, &step.element];
         let expected = expect(&refusals, before, || step.accepted());
-        let got = call(before, |[words, out]| step.ours(words, out));
+        let got = call(before, |[words, out, element]| {
+            step.ours(words, out, element)
+        });
         let mut inputs = match step.kind {
             Open => arguments(step),
             Feed => vec![("piece", Words(&step.piece))],
             Close => vec![],
+            Read => vec![("place", Number(step.place))],
         };
         inputs.push(("session before", Words(before[0])));
         inputs.push(("out before", Words(before[1])));

@@ -9,7 +9,7 @@ use p3_field::{Base, Element, PrimeCharacteristicRing};
 
 use host::{COORDINATES, HEAD};
 
-use Kind::{Close, Feed, Open};
+use Kind::{Close, Feed, Open, Read};
 
 /// The places among a session's words, and their count: the head, and the coordinates.
 pub const N: usize = 0;
@@ -30,6 +30,7 @@ pub enum Kind {
     Open,
     Feed,
     Close,
+    Read,
 }
 
 #[derive(Clone)]
@@ -43,14 +44,17 @@ pub struct Step {
     pub point: Vec<u32>,
     /// Feed's.
     pub piece: Vec<u32>,
-    /// The session's words and out before the call.
+    /// Read's.
+    pub place: u64,
+    /// The session's words, out and the element that a read gives, before the call.
     pub words: Vec<u32>,
     pub out: Vec<u32>,
+    pub element: Vec<u32>,
 }
 
 impl Step {
     /// The call through C.
-    pub fn ours(&self, words: &mut [u32], out: &mut [u32]) -> u32 {
+    pub fn ours(&self, words: &mut [u32], out: &mut [u32], element: &mut [u32]) -> u32 {
         let (n, side, weight) = (self.n, self.side, self.weight);
         let scale = self.scale[..].try_into().unwrap();
         let (head, point) = words.split_at_mut(HEAD);
@@ -59,10 +63,15 @@ impl Step {
             Open => host::session_open(&self.point, scale, n, side, weight, out, head, point),
             Feed => host::session_feed(&self.piece, out, head, point),
             Close => host::session_close(out, head, point),
+            Read => {
+                let element = element.try_into().unwrap();
+                host::session_read(self.place, out, head, point, element)
+            }
         }
     }
 
-    /// Tests in document 01's order, each with the refusal where it holds.
+    /// Tests in the order of document 01 and of request (a), each with the refusal
+    /// where it holds.
     pub fn refusals(&self) -> Vec<(bool, u32)> {
         if self.is_no_session() {
             return vec![(true, NO_SESSION)];
@@ -82,6 +91,15 @@ impl Step {
         let misfits = splits([out]) || rows(n.saturating_sub(k)) != Some(entries(out));
         let passes = |more| rows(n).is_some_and(|rows| taken + more > rows);
         let missing = rows(n).is_none_or(|rows| taken < rows);
+        if self.kind == Read {
+            let beyond = rows(n.saturating_sub(k)).is_some_and(|places| self.place >= places);
+            return vec![
+                (self.broken(), 11),
+                (misfits, 4),
+                (unreduced([out]), 5),
+                (beyond, 14),
+            ];
+        }
         let (input, last) = match self.kind {
             Feed => ([out, piece], (passes(piece.len() as u64), 8)),
             _ => ([out, &[]], (missing, 9)),
@@ -117,10 +135,11 @@ impl Step {
         [N, K, SIDE, WEIGHT, TAKEN, CLOSED].map(|at| self.words[at] as u64)
     }
 
-    /// The session's words and out after this accepted call.
-    pub fn accepted(&self) -> [Vec<u32>; 2] {
+    /// The session's words, out and the element after this accepted call.
+    pub fn accepted(&self) -> [Vec<u32>; 3] {
         let mut words = self.words.clone();
-        match self.kind {
+        let mut element = self.element.clone();
+        let [words, out] = match self.kind {
             Open => {
                 let k = entries(&self.point) as u32;
                 words = vec![self.n as u32, k, self.side, self.weight, 0, 0];
@@ -136,7 +155,12 @@ impl Step {
                 words[CLOSED] = 1;
                 [words, self.out.clone()]
             }
-        }
+            Read => {
+                element = self.out[4 * self.place as usize..][..4].to_vec();
+                [words, self.out.clone()]
+            }
+        };
+        [words, out, element]
     }
 
     /// Out with scale·weight·word added to the place of each word of the piece.

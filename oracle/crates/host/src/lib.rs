@@ -109,4 +109,7 @@ operations! {
         reads(piece) writes(out) gives(head: [u32; HEAD], coordinates: [u32; COORDINATES]);
     host_session_close = session_close
         writes(out) gives(head: [u32; HEAD], coordinates: [u32; COORDINATES]);
+    host_session_read = session_read
+        numbers(place: u64) writes(out)
+        gives(head: [u32; HEAD], coordinates: [u32; COORDINATES], element: [u32; 4]);
 }

@@ -143,8 +143,10 @@ impl Reader {
                     scale: words(scale),
                     point: vec![0; 4 * k as usize],
                     piece: vec![],
+                    place: 0,
                     words: vec![0; WORDS],
                     out: vec![0; 4 << (n - k)],
+                    element: vec![0; 4],
                 });
             }
             [2, index, ref element @ ..] => self.coordinates.push((index, words(element))),
@@ -176,7 +178,7 @@ impl Reader {
         for (kind, piece) in [(Open, &[][..]), (Feed, came), (Feed, missing), (Close, &[])] {
             (step.kind, step.piece) = (kind, piece.to_vec());
             assert_eq!(
-                step.ours(&mut session, &mut out),
+                step.ours(&mut session, &mut out, &mut [0; 4]),
                 0,
                 "the library's session"
             );
