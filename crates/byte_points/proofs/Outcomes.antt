@@ -4,7 +4,7 @@ use mathlib.Core.Path.{_≡_, refl, sym, ap, _∙_}
 use Prim.Native.Nat.{ℕ}
 use mathlib.Core.List.{List, [], _++_}
 use Rattle.octets.specs.Octets.{octets}
-use Rattle.table.specs.Refusals.{number, answer, Outcome, Test, verdict, leaves, given}
+use Rattle.table.specs.Refusals.{number, answer, Outcome, alone, Test, verdict, leaves, given}
 use Rattle.table.specs.declared.Refusal.{Refusal}
 use Rattle.table.specs.declared.Verdict.{Verdict}
 use Rattle.table.specs.declared.Verdict.the-variants.{Accepted, Refused}
@@ -19,7 +19,7 @@ module _ (ts : List Test) (new out : List ℕ) where
 
   -- the answer on words, whose tests have the number m
   module _ {m : ℕ} (same : m ≡ verdict ts) where
-    pub refused-on-words : (r : Refusal) → record { number = number r; words = [] } ≡ given m new → Answers (Refused r) out
+    pub refused-on-words : (r : Refusal) → alone (number r) ≡ given m new → Answers (Refused r) out
     refused-on-words r q = both _ out {t = Refused r} refl (ap (λ (o : Outcome). o .number) q ∙ same) refl
 
     pub valued : {us w : List ℕ} → record { number = 0; words = us } ≡ given m new → w ≡ octets us → Answers Accepted w

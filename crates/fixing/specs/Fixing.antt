@@ -10,7 +10,7 @@ use Rattle.multilinear.specs.Beside.{line}
 use Rattle.field.specs.Field.{p, Ext, field, fromWords}
 use Rattle.field.specs.declared.Element.{Element}
 use Rattle.table.specs.Table.{tableWords, entries, elementAt}
-use Rattle.table.specs.Refusals.{number, Outcome, Test, _gives_, verdict, leaves, given, splits, notPower, tooManyVariables}
+use Rattle.table.specs.Refusals.{number, Outcome, alone, Test, _gives_, verdict, leaves, given, splits, notPower, tooManyVariables}
 use Rattle.fixing.specs.declared.Rule.{Rule}
 use Rattle.fixing.specs.declared.Rule.the-variants.{Prefix, Suffix, Sum, Monomial}
 use Rattle.fixing.specs.declared.Remaining.{Remaining}
@@ -55,7 +55,7 @@ fixTests ws r =
 -- number and words of a `Remaining`: the count of entries that remain
 abbrev pub remainingOutcome : Remaining → Outcome
 remainingOutcome (remaining.Entries n) = record { number = 0; words = n ∷ [] }
-remainingOutcome (remaining.Refused r) = record { number = number r; words = [] }
+remainingOutcome (remaining.Refused r) = alone (number r)
 
 unfoldable pub fixAnswer : List ℕ → Element → Outcome
 fixAnswer ws r = given (verdict (fixTests ws r)) (entries ws / 2 ∷ [])

@@ -13,16 +13,13 @@ use Rattle.algebra.proofs.Words.{unreduced-append, unreduced-zeros}
 use Rattle.field.specs.Field.{p, p-pos}
 use Rattle.table.specs.Table.{entries}
 use Rattle.table.specs.Refusals.{most}
-use Rattle.table.proofs.Tests.{whole, same}
+use Rattle.table.proofs.Tests.{whole}
+use Rattle.table.proofs.Says.{room}
 use Rattle.table.proofs.Verdicts.{Clear, clear}
 use Rattle.plan.specs.declared.Plan.{Plan}
 use Rattle.plan.specs.Plan.{places}
 use Rattle.plan.specs.Sound.{Sound, Takes}
 use Rattle.ledger.specs.Session.{State, Args, planned, openTests, openAnswer, feedTests, feedAnswer, readTests, readAnswer}
-
--- out has an element for each place
-room-is : (n : ℕ) (out : List ℕ) → 4 * entries out ≡ length out → entries out ≡ n → length out ≡ 4 * n
-room-is n out e q = omega arith
 
 -- open: the point's words are four to an element, its plan is sound, and out has an element for each place
 pub record Opened (a : Args) (out : List ℕ) : Type 0 where
@@ -44,7 +41,7 @@ opened a out e =
         scale-is = record { words-below = lengths .1 .1 .1 .0 };
         coordinates-below = unreduced-append _ (a .point) _ (lengths .1 .1 .0) (unreduced-zeros _ p-pos (4 * most - length (a .point)));
       };
-      room = room-is _ out (whole out (h .1 .0)) (same (entries out) (places (planned a)) (lengths .1 .0));
+      room = room out (a .n - entries (a .point)) (h .1 .0) (lengths .1 .0);
     }
 
 -- feed: the session takes the piece
@@ -62,7 +59,7 @@ fed st piece e =
       };
       within = ltb-false _ _ (later .1 .1 .1 .1 .0);
       piece-below = later .1 .1 .1 .0;
-      room = room-is _ (st .out) (whole (st .out) (later .0)) (same (entries (st .out)) (places (st .session .plan)) (later .1 .0));
+      room = room (st .out) (st .session .plan .n - st .session .plan .k) (later .0) (later .1 .0);
       out-below = later .1 .1 .0;
     }
 
@@ -77,5 +74,5 @@ unfolding readAnswer
 readable st place e =
     let h : Clear (readTests st place) = clear (readTests st place) tt e in
     let out = h .1 .1 .1 .1 .1 .1 .1 in
-    let room = room-is _ (st .out) (whole (st .out) (out .0)) (same (entries (st .out)) (places (st .session .plan)) (out .1 .0)) in
-    (omega (arith, room, leb-false (places (st .session .plan)) place (out .1 .1 .1 .0)), out .1 .1 .0)
+    let there = room (st .out) (st .session .plan .n - st .session .plan .k) (out .0) (out .1 .0) in
+    (omega (arith, there, leb-false (places (st .session .plan)) place (out .1 .1 .1 .0)), out .1 .1 .0)

@@ -81,22 +81,17 @@ unfoldable pub nonzero : List ℕ → Bool
 nonzero [] = false
 nonzero (w ∷ ws) = not (eqb w 0) || nonzero ws
 
--- 11: n over 20, k over n, taken over the table's words, a part unreduced, unused coordinate not 0, closed short of the table; of a table
--- of so many words, and of coordinates that are used up to word `used`
-abbrev pub partTests : Session → ℕ → ℕ → List Test
-partTests s words used =
+-- 11: n over 20, k over n, taken over 2^n, a part unreduced, unused coordinate not 0, closed short of 2^n
+abbrev pub recordTests : Session → List Test
+recordTests s =
     ltb most (s .plan .n) gives 11
     ∷ ltb (s .plan .n) (s .plan .k) gives 11
-    ∷ ltb words (s .taken) gives 11
+    ∷ ltb (capacity (s .plan)) (s .taken) gives 11
     ∷ unreduced p (s .plan .scale .c) gives 11
     ∷ unreduced p (s .plan .coordinates) gives 11
-    ∷ nonzero (drop used (s .plan .coordinates)) gives 11
-    ∷ (s .closed && ltb (s .taken) words) gives 11
+    ∷ nonzero (drop (4 * s .plan .k) (s .plan .coordinates)) gives 11
+    ∷ (s .closed && ltb (s .taken) (capacity (s .plan))) gives 11
     ∷ []
-
--- of 2^n words, and of k coordinates
-abbrev pub recordTests : Session → List Test
-recordTests s = partTests s (capacity (s .plan)) (4 * s .plan .k)
 
 -- 4 (out), 5 (any word of out)
 abbrev pub outTests : State → List Test

@@ -8,7 +8,7 @@ use Rattle.multilinear.specs.Successors.{NextParts, evalNext}
 use Rattle.multilinear.specs.Beside.{evalEq}
 use Rattle.field.specs.Field.{p, Ext, field}
 use Rattle.table.specs.Table.{entries, pointOf}
-use Rattle.table.specs.Refusals.{number, Outcome, valueWords, Test, _gives_, verdict, given, evaluated, splits, tooMany}
+use Rattle.table.specs.Refusals.{number, Outcome, alone, valueWords, Test, _gives_, verdict, given, evaluated, splits, tooMany}
 use Rattle.next.specs.declared.Next.{Next}
 use Rattle.next.specs.declared.Next.the-variants as next
 
@@ -30,7 +30,7 @@ evalEqAnswer point other = evaluated (verdict (pairTests point other)) (evalEq f
 -- number and words of a `Next`
 abbrev pub nextOutcome : Next → Outcome
 nextOutcome (next.Parts carry done omega) = record { number = 0; words = valueWords carry ++ valueWords done ++ valueWords omega }
-nextOutcome (next.Refused r) = record { number = number r; words = [] }
+nextOutcome (next.Refused r) = alone (number r)
 
 -- carry, done and omega
 abbrev pub partWords : NextParts Ext → List ℕ

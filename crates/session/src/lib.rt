@@ -8,13 +8,12 @@ use table::Refusal;
 use table::Verdict;
 ghost use mathlib.Core.Path.{_≡_};
 ghost use mathlib.Core.Bool.{_&&_};
-ghost use Prim.Native.Nat.{_*_, min};
 ghost use lib.Dec.{ltb};
 ghost use lib.ListN.{drop};
-ghost use Rattle.table.specs.Refusals.{answer, outcome, verdict, most};
+ghost use Rattle.table.specs.Refusals.{answer, outcome, verdict};
 ghost use Rattle.table.specs.Inner.{onward};
 ghost use Rattle.ledger.specs.Session.{args, noSession, nonzero, state, openTests, openStep, feedAnswer, feedStep, closeAnswer, closeStep};
-ghost use Rattle.ledger.specs.Session.{partTests, outTests, readAnswer};
+ghost use Rattle.ledger.specs.Session.{recordTests, outTests, readAnswer};
 ghost use Rattle.session.specs.Settled.{settled};
 ghost use Rattle.session.specs.Inner.{readyTests};
 
@@ -138,7 +137,7 @@ fn test_feed(s: Session, piece: &[u32], out: &[u32]) -> Verdict
     ensures { λ r. ⌜ answer r ≡ feedAnswer (state s (now (out .entry))) (now (piece .entry)) ⌝ }
 {
     let words = table::rows(table::min(s.plan.n, table::MOST));
-    test_ready(s, words, out)
+    test_ready(s, out)
         .refuse_if(field::unreduced(piece), Refusal::Unreduced)
         .refuse_if(
             table::remaining(words, s.taken) < piece.len(),
@@ -150,23 +149,21 @@ fn test_close(s: Session, out: &[u32]) -> Verdict
     ensures { λ r. ⌜ answer r ≡ closeAnswer (state s (now (out .entry))) ⌝ }
 {
     let words = table::rows(table::min(s.plan.n, table::MOST));
-    test_ready(s, words, out).refuse_if(s.taken < words, Refusal::Missing)
+    test_ready(s, out).refuse_if(s.taken < words, Refusal::Missing)
 }
 
 // 14 where out has no such element: it was tested to have 2^(n-k).
 fn test_read(s: Session, place: usize, out: &[u32]) -> Verdict
     ensures { λ r. ⌜ answer r ≡ readAnswer (state s (now (out .entry))) place .number ⌝ }
 {
-    let words = table::rows(table::min(s.plan.n, table::MOST));
-    let tested = test_record(s, words);
-    refuse_out(tested, s, out).refuse_if(out.len() / 4 <= place, Refusal::NoPlace)
+    refuse_out(test_record(s), s, out).refuse_if(out.len() / 4 <= place, Refusal::NoPlace)
 }
 
-// The tests that feed and close share, of a table of so many words.
-fn test_ready(s: Session, words: usize, out: &[u32]) -> Verdict
-    ensures { λ r. ⌜ answer r ≡ onward 0 (readyTests (state s (now (out .entry))) words (4 * min (s .plan .k) most)) ⌝ }
+// The tests that feed and close share.
+fn test_ready(s: Session, out: &[u32]) -> Verdict
+    ensures { λ r. ⌜ answer r ≡ verdict (readyTests (state s (now (out .entry)))) ⌝ }
 {
-    let tested = test_record(s, words).refuse_if(s.closed, Refusal::Closed);
+    let tested = test_record(s).refuse_if(s.closed, Refusal::Closed);
     refuse_out(tested, s, out)
 }
 
@@ -183,10 +180,11 @@ fn refuse_out(tested: Verdict, s: Session, out: &[u32]) -> Verdict
         .refuse_if(field::unreduced(out), Refusal::Unreduced)
 }
 
-// 11, of a table of so many words.
-fn test_record(s: Session, words: usize) -> Verdict
-    ensures { λ r. ⌜ answer r ≡ onward 0 (partTests s words (4 * min (s .plan .k) most)) ⌝ }
+// 11. Sizes are held in their limits, so that they fit; a number beyond one is 11 before they count.
+fn test_record(s: Session) -> Verdict
+    ensures { λ r. ⌜ answer r ≡ verdict (recordTests s) ⌝ }
 {
+    let words = table::rows(table::min(s.plan.n, table::MOST));
     let scale = s.plan.scale.c;
     let coordinates = s.plan.coordinates;
     let bad_scale = field::unreduced(&scale);

@@ -8,6 +8,7 @@ ghost use Rattle.table.specs.Inner.{onward};
 ghost use Rattle.split_tests.specs.SplitTests.{foldAnswer, valueTests, baseAnswer, extAnswer, lastTests, accumulateAnswer};
 ghost use Rattle.split_tests.specs.Inner.{splitTests, wordTests};
 
+// Of a split fold: 1, 2, 3, 4 (also k above n, work, out), 5.
 pub fn of_fold(table: &[u32], point: &[u32], scale: Element, work: &[u32], out: &[u32]) -> Verdict
     ensures { λ r. ⌜ answer r
         ≡ foldAnswer (now (table .entry)) (now (point .entry)) scale (now (work .entry)) (now (out .entry)) ⌝ }
@@ -26,12 +27,14 @@ pub fn of_fold(table: &[u32], point: &[u32], scale: Element, work: &[u32], out: 
     words(sized, table, point, scale)
 }
 
+// Of the value of a table of base words: 1, 2, 3, 4 (also work), 5.
 pub fn of_base(table: &[u32], point: &[u32], scale: Element, work: &[u32]) -> Verdict
     ensures { λ r. ⌜ answer r ≡ baseAnswer (now (table .entry)) (now (point .entry)) scale (now (work .entry)) ⌝ }
 {
     value(split(point, work), table.len(), table, point, scale, work)
 }
 
+// Of the value of a table of elements, which has a 1 of its own.
 pub fn of_ext(table: &[u32], point: &[u32], scale: Element, work: &[u32]) -> Verdict
     ensures { λ r. ⌜ answer r ≡ extAnswer (now (table .entry)) (now (point .entry)) scale (now (work .entry)) ⌝ }
 {
@@ -39,6 +42,7 @@ pub fn of_ext(table: &[u32], point: &[u32], scale: Element, work: &[u32]) -> Ver
     value(whole, table.len() / 4, table, point, scale, work)
 }
 
+// Of `last_scalar`: 1, 3, 4 (work), 5.
 pub fn of_last(point: &[u32], scale: Element, work: &[u32]) -> Verdict
     ensures { λ r. ⌜ answer r ≡ verdict (lastTests (now (point .entry)) scale (now (work .entry))) ⌝ }
 {
@@ -50,6 +54,7 @@ pub fn of_last(point: &[u32], scale: Element, work: &[u32]) -> Verdict
         .refuse_if(field::unreduced(&words), Refusal::Unreduced)
 }
 
+// Of `accumulate_into`: 1, 2, 3, 4 (also work), 5; out is the table, and both scales are input.
 pub fn of_accumulate(
     point: &[u32],
     scale: Element,

@@ -6,7 +6,7 @@ use Rattle.algebra.specs.Words.{wordsOf}
 use Rattle.field.specs.Field.{Ext, toWords, valueOf, Holds}
 use Rattle.field.specs.declared.Element.{Element}
 use Rattle.field.specs.declared.Value.{Value}
-use Rattle.table.specs.Refusals.{number, answer, Outcome, valueWords, outcome, leaves, given, evaluated}
+use Rattle.table.specs.Refusals.{number, answer, Outcome, alone, valueWords, outcome, leaves, given, evaluated}
 use Rattle.table.specs.declared.Refusal.{Refusal}
 use Rattle.table.specs.declared.Verdict.{Verdict}
 use Rattle.table.specs.declared.Verdict.the-variants.{Accepted, Refused}
@@ -15,7 +15,7 @@ use Rattle.table.proofs.Answers.{kept, answer-as}
 
 -- words that a call answers: none where the tests' verdict t is a refusal
 pub given-none : (ws : List ℕ) {r : Refusal} {t : Verdict} {n : ℕ} → t ≡ Refused r → answer t ≡ n
-    → record { number = number r; words = [] } ≡ given n ws
+    → alone (number r) ≡ given n ws
 given-none ws {r} e h = ap (λ us. let o : Outcome = record { number = number r; words = us } in o) (sym (kept ws [] r)) ∙ ap (λ n. given n ws) (answer-as e h)
 
 pub given-all : (ws : List ℕ) {t : Verdict} {n : ℕ} → t ≡ Accepted → answer t ≡ n → record { number = 0; words = ws } ≡ given n ws

@@ -37,6 +37,18 @@ onward-verdict (t ∷ ts) h = go (t .holds) (t .number) h (onward-verdict ts)
     go true (suc n) h ih = onward-given n ts
     go false (suc n) h ih = ih h
 
+-- tests us, gone through after the verdict on the tests ts
+pub and-then : (ts us : List Test) → Numbered ts → Numbered us → onward (verdict ts) us ≡ verdict (ts ++ us)
+unfolding verdict
+and-then [] us h k = onward-verdict us k
+and-then (t ∷ ts) us h k = go (t .holds) (t .number) h (λ i. and-then ts us i k)
+  where
+    go : (b : Bool) (n : ℕ) → Unless n (Numbered ts) → (Numbered ts → onward (verdict ts) us ≡ verdict (ts ++ us))
+        → onward (cond b n (verdict ts)) us ≡ cond b n (verdict (ts ++ us))
+    go b zero h ih = absurd h
+    go true (suc n) h ih = onward-given n us
+    go false (suc n) h ih = ih h
+
 pub gone-through : (ts : List Test) → Numbered ts → {n : ℕ} → n ≡ onward 0 ts → n ≡ verdict ts
 gone-through ts h e = e ∙ onward-verdict ts h
 
@@ -52,23 +64,6 @@ stays {r} e test n = rw e (go (number r) (number-some r))
     go : (m : ℕ) → (0 ≡ m → ⊥) → m ≡ refuseIf m test n
     go zero h = absurd (h refl)
     go (suc m) h = refl
-
--- one test more, after the verdict n on the tests ts
-verdict-more : (ts : List Test) → Numbered ts → (t : Test) → verdict (ts ++ t ∷ []) ≡ refuseIf (verdict ts) (t .holds) (t .number)
-unfolding verdict refuseIf
-verdict-more [] h t = refl
-verdict-more (u ∷ ts) h t = go (u .holds) (u .number) h (λ k. verdict-more ts k t)
-  where
-    go : (b : Bool) (n : ℕ) → Unless n (Numbered ts)
-        → (Numbered ts → verdict (ts ++ t ∷ []) ≡ refuseIf (verdict ts) (t .holds) (t .number))
-        → cond b n (verdict (ts ++ t ∷ [])) ≡ refuseIf (cond b n (verdict ts)) (t .holds) (t .number)
-    go b zero h ih = absurd h
-    go true (suc n) h ih = refl
-    go false (suc n) h ih = ih h
-
-pub one-more : (ts : List Test) → Numbered ts → (t : Test) {n : ℕ} → n ≡ verdict ts
-    → refuseIf n (t .holds) (t .number) ≡ verdict (ts ++ t ∷ [])
-one-more ts h t e = ap (λ n. refuseIf n (t .holds) (t .number)) e ∙ sym (verdict-more ts h t)
 
 -- no test holds
 abbrev pub Clear : List Test → Type 0

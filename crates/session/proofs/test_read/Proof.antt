@@ -8,16 +8,7 @@ use Rattle.session.proofs.test_read.Tie as tie
 returns : tie.Need-returns
 returns c =
     let out = c .before in
-    let parts = out .before in
-    read-held (state _ _) _
-    (rw (
-      c .refuse-if .ensures,
-      out .refuse-out .ensures,
-      parts .test-record .ensures,
-      parts .before .rows .ensures,
-      parts .before .before .min .ensures,
-    ))
+    read-held (state _ _) _ (rw (c .refuse-if .ensures, out .refuse-out .ensures, out .before .test-record .ensures))
 
 pub test-read-spec : {M : Type 1} → statement M
-test-read-spec =
-    tie.close (tie.spec (search needs) (search needs) (search needs) (search needs) (search needs) returns)
+test-read-spec = tie.close (tie.spec (search needs) (search needs) (search needs) returns)
