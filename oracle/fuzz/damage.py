@@ -37,6 +37,12 @@ def fault_repeated(rng, plan):
             plan.coordinates.insert(rng.randint(0, len(plan.coordinates)), (index, again))
 
 
+def fault_order(rng, plan):
+    if len(plan.coordinates) > 1:
+        a, b = rng.sample(range(len(plan.coordinates)), 2)
+        plan.coordinates[a], plan.coordinates[b] = plan.coordinates[b], plan.coordinates[a]
+
+
 def fault_index(rng, plan):
     index = rng.choice((plan.k, min(plan.k + 1, 255), 19, 20, 21, 31, 32, 64, 128, 255))
     extra = (index, element(rng))
@@ -74,8 +80,8 @@ def fault_no_close(rng, plan):
 
 
 PLAN_FAULTS = [
-    fault_side_or_weight, fault_sizes, fault_sizes, fault_scale, fault_missing, fault_repeated, fault_index,
-    fault_coordinate_word, fault_word, fault_too_many, fault_no_close,
+    fault_side_or_weight, fault_sizes, fault_sizes, fault_scale, fault_missing, fault_repeated, fault_order,
+    fault_index, fault_coordinate_word, fault_word, fault_too_many, fault_no_close,
 ]
 
 

@@ -1,4 +1,4 @@
-"""The program `foldframes` as a function of its input (document 01, "Frames").
+"""The program `foldframes` as a function of its input (document 01, "Frames"; document 02, (b), for the coordinates).
 
 `Program` takes the lines one at a time, as the program does; `foldframes`
 takes the whole input and gives the whole of standard output.
@@ -67,7 +67,7 @@ class Program:
         self.reading_words = False   # the first `03` or `04` has come
         self.closed = False
         self.stopped = False
-        self.coordinates = []        # (index, element), as they came
+        self.coordinates = []        # as they came
         self.words = []
 
     def line(self, line):
@@ -105,7 +105,7 @@ class Program:
     def check_place(self, kind):
         # "Just one `01` comes first"
         refuse(12, (kind == 0x01) == self.opened)
-        # "coordinates come in any order before the first `03` or `04`"
+        # coordinates come "before the first `03` or `04`"
         refuse(12, kind == 0x02 and self.reading_words)
 
     def open(self, frame):
@@ -123,17 +123,20 @@ class Program:
         return b""
 
     def coordinate(self, frame):
-        element = words_of(frame[2:])
+        index, element = frame[1], words_of(frame[2:])
+        # Document 02: "the index starts at 00 and rises by one"
+        refuse(13, index != len(self.coordinates))
+        # "or one at or above k, gets 13 at that frame, before 5"
+        refuse(13, index >= self.k)
         # "At `02`: 5"
         refuse(5, unreduced(element))
-        self.coordinates.append((frame[1], element))
+        self.coordinates.append(element)
         return b""
 
     def start_words(self):
-        # "At the first `03` or `04`: 13 (coordinates missing, repeated or index at or above k)"
+        # "missing coordinates are still told at the first `03` or `04`"
         if not self.reading_words:
-            indices = sorted(index for index, _ in self.coordinates)
-            refuse(13, indices != list(range(self.k)))
+            refuse(13, len(self.coordinates) < self.k)
             self.reading_words = True
 
     def feed(self, frame):
@@ -150,8 +153,7 @@ class Program:
         self.start_words()
         self.closed = True
         # "missing words count as 0, then each out element is a line of 32 digits"
-        point = [element for _, element in sorted(self.coordinates)]
-        out = model.fold_sparse(self.side, self.weight, self.n, point, self.scale, self.words)
+        out = model.fold_sparse(self.side, self.weight, self.n, self.coordinates, self.scale, self.words)
         return b"".join(element_line(element) for element in out)
 
 

@@ -69,7 +69,6 @@ class Plan:
         word = word_for(rng, self.k)
         self.scale = element(rng, word)
         self.coordinates = [(index, element(rng, word)) for index in range(self.k)]
-        rng.shuffle(self.coordinates)
         self.pieces = cut_words(rng, self.draw_words(rng, word))
         self.close = True
 

@@ -1,4 +1,4 @@
-"""Document 01's worked examples, its listing and its readings, through the model.
+"""Document 01's worked examples, its listing and its readings, and document 02's, through the model.
 
 Run: python3 selftest.py
 """
@@ -138,7 +138,7 @@ class Frames(unittest.TestCase):
         for side, weight, z, answer in (
                 (0, 0, 2, (17, 28)), (0, 1, 2, (-9, -16)), (1, 0, 3, (10, 30)), (1, 1, 3, (-8, -32))):
             self.says([open_line(2, 1, side, weight), "0200" + element(z), WORDS, "04"], out(*answer))
-        z = ["0201" + element(3), "0200" + element(2)]
+        z = ["0200" + element(2), "0201" + element(3)]
         self.says([open_line(2, 2)] + z + [WORDS, "04"], out(50))
         self.says([open_line(2, 2, 1, 2)] + z + [WORDS, "04"], out(13))
         self.says([open_line(0, 0, 0, 0, 5), "030100000007", "04"], out(35))
@@ -149,7 +149,7 @@ class Frames(unittest.TestCase):
         self.assertEqual(foldframes(b""), b"ff09\n")
         self.assertEqual(foldframes(b"\n"), b"ff0c\n")
         self.says([OPEN], "ff09\n")
-        self.says([OPEN, "02ff" + element(1), "02ff" + element(1)], "ff09\n")
+        self.says([OPEN, POINT], "ff09\n")
         self.says([OPEN, POINT, WORDS], "ff09\n")
 
     def test_after_close(self):
@@ -180,13 +180,20 @@ class Frames(unittest.TestCase):
         self.says([open_line(2, 1, 0, 0, P - 1)], "ff09\n")
 
     def test_coordinates(self):
-        self.says([OPEN, "02ff" + element(P)], "ff05\n")
         self.says([OPEN, "0200" + element(0, 0, 0, P)], "ff05\n")
         for close in ("04", "0300", "0301" + BAD, "0305" + "00000000" * 5):
             self.says([OPEN, close], "ff0d\n")
-            self.says([OPEN, POINT, POINT, close], "ff0d\n")
-            self.says([OPEN, "0201" + element(2), close], "ff0d\n")
-            self.says([OPEN, POINT, "0201" + element(2), close], "ff0d\n")
+            self.says([open_line(2, 2), POINT, close], "ff0d\n")
+
+    def test_order(self):
+        """ "A frame with any other index, or one at or above k, gets 13 at that frame, before 5" """
+        for word in (2, P):
+            for before, index in (((), 1), ((), 255), ((0,), 0), ((0,), 2), ((0, 1), 0), ((0, 1, 2), 3), ((0, 1, 2), 255)):
+                lines = ["02%02x" % i + element(2) for i in before] + ["02%02x" % index + element(word)]
+                self.says([open_line(3, 3)] + lines, "ff0d\n")
+                self.says([open_line(3, 3)] + lines + ["zz"], "ff0d\n")
+            self.says([open_line(0, 0), "0200" + element(word)], "ff0d\n")
+        self.says([OPEN, "0201" + element(2) + "00"], "ff0c\n")
 
     def test_words(self):
         self.says([OPEN, POINT, "0301" + BAD], "ff05\n")

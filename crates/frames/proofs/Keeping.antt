@@ -1,16 +1,15 @@
 -- What every line finds holds before the first line, and an accepted line of each kind keeps it. Assumes nothing.
 use mathlib.Core.Path.{_≡_, refl, sym, ap, _∙_}
-use mathlib.Core.Bool.{Bool, true, false}
-use Prim.Native.Nat.{ℕ, _*_, _^_, _≤_}
+use mathlib.Core.Bool.{false}
+use Prim.Native.Nat.{ℕ, _*_, _^_, _≤_, _<_}
 use native.Mathlib.Omega.{arith}
 use mathlib.Core.List.{List}
-use lib.Dec.{ltb}
 use lib.ListN.{length, take, drop, replicate, length-append, length-drop, length-replicate}
 use lib.Pow.{pow-mono}
 use lib.Seq.{length-take-le}
 use Rattle.algebra.specs.Words.{unreduced}
 use Rattle.algebra.proofs.Words.{unreduced-append, unreduced-drop, unreduced-take, unreduced-zeros}
-use Rattle.field.specs.Field.{p, p-pos, Reduced}
+use Rattle.field.specs.Field.{p, p-pos}
 use Rattle.table.specs.Refusals.{most}
 use Rattle.table.proofs.Laws.{table-length}
 use Rattle.table.proofs.Parts.{unreduced-put}
@@ -26,7 +25,7 @@ use Rattle.runs.specs.declared.Phase.the-variants.{Done}
 use Rattle.runs.specs.declared.Reader.{Reader}
 use Rattle.runs.specs.Reader.{mostPlaces, lineAnswer, started, opened, noted, counted, taken, used, outBy, Ready}
 use Rattle.frames.specs.Inner.{InLimits, Takes}
-use Rattle.runs.proofs.Accepted.{Opens, opens, notes, Feeds, feeds}
+use Rattle.runs.proofs.Accepted.{Opens, opens, Notes, notes, Feeds, feeds}
 
 -- before the first line, with any out of reduced words
 pub at-start : (out : List ℕ) → length out ≡ 4 * 2 ^ mostPlaces → unreduced p out ≡ false → Ready started out
@@ -74,31 +73,28 @@ module _ (r : Reader) (f : Frame) (out : List ℕ) (d : Ready r out) where
       }
 
   -- of the same session
-  same-keeps : (phase : Phase) (given : List ℕ) (beyond : Bool)
-      → Ready (record { phase = phase; session = r .session; given = given; beyond = beyond }) out
-  same-keeps phase given beyond =
-      record { sound = d .sound; few = d .few; within = d .within; room = d .room; out-below = d .out-below }
+  same-keeps : (phase : Phase) → Ready (record { phase = phase; session = r .session; came = r .came }) out
+  same-keeps phase = record { sound = d .sound; few = d .few; within = d .within; room = d .room; out-below = d .out-below }
 
-  noted-keeps : Reduced (f .element) → Ready (noted r f) out
-  noted-keeps e = go (ltb (f .index) (r .session .plan .k)) refl
-    where
-      go : (t : Bool) → ltb (f .index) (r .session .plan .k) ≡ t → Ready (noted r f) out
-      go true q =
-          let s = d .sound in
-          rw q
-          (record {
-            sound = record {
-              small = s .small;
-              fits = s .fits;
-              scale-is = s .scale-is;
-              coordinates-below = unreduced-put (r .session .plan .coordinates) (f .index) e (s .coordinates-below);
-            };
-            few = d .few;
-            within = d .within;
-            room = d .room;
-            out-below = d .out-below;
-          })
-      go false q = rw q (same-keeps (r .phase) (r .given) _)
+  noted-keeps : Notes r f → Ready (noted r f) out
+  noted-keeps h =
+      let s = d .sound in
+      record {
+        sound = record {
+          small = s .small;
+          fits = s .fits;
+          scale-is = s .scale-is;
+          coordinates-below = unreduced-put (r .session .plan .coordinates) (f .index) (h .coordinate-is) (s .coordinates-below);
+        };
+        few = d .few;
+        within = d .within;
+        room = d .room;
+        out-below = d .out-below;
+      }
+
+  -- what an `02` hands to `note`
+  pub hands-coordinate : lineAnswer r f ≡ 0 → f .kind ≡ Coordinate → (f .index ≡ r .came) × (f .index < most)
+  hands-coordinate a e = let h = notes r f a e in (h .next, omega (arith, h .below, d .sound .fits, d .sound .small))
 
   counted-keeps : Feeds r f → Ready (counted r f) (outBy Words r f out)
   counted-keeps h =
@@ -132,7 +128,7 @@ keeps : (k : Kind) {r : Reader} {f : Frame} {out : List ℕ} → f .kind ≡ k �
 keeps Open {r} {f} {out} e t = opened-keeps r f out (t .ready) (opens r f (t .accepted) e)
 keeps Coordinate {r} {f} {out} e t = noted-keeps r f out (t .ready) (notes r f (t .accepted) e)
 keeps Words {r} {f} {out} e t = counted-keeps r f out (t .ready) (feeds r f (t .accepted) e)
-keeps Close {r} {f} {out} e t = same-keeps r f out (t .ready) Done (r .given) (r .beyond)
+keeps Close {r} {f} {out} e t = same-keeps r f out (t .ready) Done
 keeps NoFrame e t = t .ready
 
 -- what the code of kind k gives

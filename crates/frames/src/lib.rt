@@ -2,6 +2,8 @@
 //
 //     Start --01--> Points --03--> Words --04--> Done
 //                     02 |  04       03
+//
+// The coordinates come in `Points`, index 00 first and rising by one.
 use field::Element;
 use frame::Frame;
 use frame::Kind;
@@ -16,10 +18,9 @@ use table::Refusal;
 use table::Verdict;
 ghost use mathlib.Core.Path.{_≡_};
 ghost use Prim.Native.Nat.{_<_};
-ghost use lib.ListN.{replicate};
 ghost use Rattle.table.specs.Refusals.{answer, verdict, most};
 ghost use Rattle.frame.specs.declared.Kind.the-variants.{Words};
-ghost use Rattle.runs.specs.Reader.{placeOf, inPlace, isDone, onceMore, withCoordinate, sessionBy, onceEach, misplaced, openTests, coordinateTests, wordsTests, kindTests, lineAnswer, started, opened, noted, counted, taken, outBy, turn, turned, outAfter, Ready};
+ghost use Rattle.runs.specs.Reader.{placeOf, inPlace, isDone, withCoordinate, sessionBy, missing, openTests, coordinateTests, wordsTests, kindTests, lineAnswer, started, opened, noted, counted, taken, outBy, turn, turned, outAfter, Ready};
 ghost use Rattle.runs.specs.Inner.{markedAs};
 ghost use Rattle.frames.specs.Inner.{InLimits, Takes, Counts};
 
@@ -39,8 +40,7 @@ pub fn start() -> Reader
             Weight::Plain,
             Element { c: [0, 0, 0, 0] },
         ),
-        given: counts(),
-        beyond: false,
+        came: 0,
     }
 }
 
@@ -144,7 +144,7 @@ fn test_kind(reader: Reader, frame: Frame) -> Verdict
     let kind = frame.kind;
     match kind {
         Kind::Open => test_open(frame),
-        Kind::Coordinate => test_coordinate(frame),
+        Kind::Coordinate => test_coordinate(reader, frame),
         Kind::Words => test_words(reader, frame),
         Kind::Close => Verdict::Accepted.refuse_if(lacks_coordinates(reader), Refusal::Coordinates),
         Kind::NoFrame => Verdict::Accepted,
@@ -168,12 +168,18 @@ fn test_open(frame: Frame) -> Verdict
         )
 }
 
-// 5.
-fn test_coordinate(frame: Frame) -> Verdict
-    ensures { λ r. ⌜ answer r ≡ verdict (coordinateTests frame) ⌝ }
+// 13, 5.
+fn test_coordinate(reader: Reader, frame: Frame) -> Verdict
+    ensures { λ r. ⌜ answer r ≡ verdict (coordinateTests reader frame) ⌝ }
 {
     let coordinate = frame.element.c;
-    Verdict::Accepted.refuse_if(field::unreduced(&coordinate), Refusal::Unreduced)
+    let bad_coordinate = field::unreduced(&coordinate);
+    let other_index = frame.index != reader.came;
+    let no_index = reader.session.plan.k <= frame.index;
+    Verdict::Accepted
+        .refuse_if(other_index, Refusal::Coordinates)
+        .refuse_if(no_index, Refusal::Coordinates)
+        .refuse_if(bad_coordinate, Refusal::Unreduced)
 }
 
 // 13, 5, 8.
@@ -197,34 +203,11 @@ fn count_of(frame: Frame) -> usize
     table::min(frame.count, frame::MOST_WORDS)
 }
 
-// 13, at the first `03` or `04`.
+// 13, at the first `03` or `04`: fewer than k coordinates have come.
 fn lacks_coordinates(reader: Reader) -> bool
-    ensures { λ r. ⌜ r ≡ misplaced reader ⌝ }
+    ensures { λ r. ⌜ r ≡ missing reader ⌝ }
 {
-    let phase = reader.phase;
-    if !place_of(phase).coordinates {
-        return false;
-    }
-    if reader.beyond {
-        return true;
-    }
-    let given = reader.given;
-    !is_once_each(&given, reader.session.plan.k)
-}
-
-// Whether each of the first k counts is one.
-fn is_once_each(counts: &[u32], k: usize) -> bool
-    ensures { λ r. ⌜ r ≡ onceEach k (now (counts .entry)) ⌝ }
-{
-    if counts.len() < k {
-        return false;
-    }
-    for i in 0..k {
-        if counts[i] != 1 {
-            return false;
-        }
-    }
-    true
+    reader.came < reader.session.plan.k
 }
 
 // What an accepted line does.
@@ -257,33 +240,22 @@ fn open(frame: Frame) -> Reader
     Reader {
         phase: Phase::Points,
         session: session_of(frame.n, frame.k, side, weight, scale),
-        given: counts(),
-        beyond: false,
+        came: 0,
     }
 }
 
-// A coordinate in its place; one more was given there.
+// A coordinate in its place; one more has come.
 fn note(reader: Reader, frame: Frame) -> Reader
-    requires { ⌜ InLimits reader ⌝ }
+    requires { ⌜ (frame .index ≡ reader .came) × (frame .index < most) ⌝ }
     ensures { λ r. ⌜ r ≡ noted reader frame ⌝ }
 {
-    let i = frame.index;
-    let mut next = reader;
-    if next.session.plan.k <= i {
-        next.beyond = true;
-        return next;
-    }
-    next.given[i] = once_more(next.given[i]);
+    let phase = reader.phase;
     let coordinate = frame.element;
-    next.session = with_coordinate(next.session, i, coordinate);
-    next
-}
-
-// None, once, more than once.
-fn once_more(count: u32) -> u32
-    ensures { λ r. ⌜ r ≡ onceMore count ⌝ }
-{
-    if count == 0 { 1 } else { 2 }
+    Reader {
+        phase,
+        session: with_coordinate(reader.session, frame.index, coordinate),
+        came: reader.came + 1,
+    }
 }
 
 // The same session, with another coordinate i.
@@ -321,12 +293,10 @@ fn mark(reader: Reader, phase: Phase, taken: usize) -> Reader
 {
     let mut s = reader.session;
     s.taken = taken;
-    let given = reader.given;
     Reader {
         phase,
         session: s,
-        given,
-        beyond: reader.beyond,
+        came: reader.came,
     }
 }
 
@@ -340,11 +310,4 @@ fn session_of(n: usize, k: usize, side: Side, weight: Weight, scale: Element) ->
         taken: 0,
         closed: false,
     }
-}
-
-// No coordinate was given.
-fn counts() -> [u32; table::MOST]
-    ensures { λ r. ⌜ r ≡ replicate most 0 ⌝ }
-{
-    [0u32; table::MOST]
 }

@@ -11,10 +11,14 @@ use Rattle.table.specs.Table.{tableWords, elementAt, elements, placed}
 use Rattle.table.specs.Refusals.{most}
 use Rattle.plan.specs.declared.Plan.{Plan}
 
--- a plan of these numbers, whose coordinates have these words, and 0 where none are given
+-- the words of a point, and 0 for the coordinates that are not given
+abbrev pub padded : List ℕ → List ℕ
+padded point = point ++ replicate (4 * most - length point) 0
+
+-- a plan of these numbers and this point
 abbrev pub planOf : ℕ → ℕ → Side → Weight → Element → List ℕ → Plan
 planOf n k side weight scale point =
-    record { n = n; k = k; side = side; weight = weight; scale = scale; coordinates = point ++ replicate (4 * most - length point) 0 }
+    record { n = n; k = k; side = side; weight = weight; scale = scale; coordinates = padded point }
 
 -- 2^k rows
 abbrev pub rows : Plan → ℕ

@@ -5,11 +5,10 @@ use field::Element;
 use multilinear::Side;
 use multilinear::Weight;
 ghost use mathlib.Core.Path.{_≡_};
-ghost use mathlib.Core.List.{_++_};
-ghost use Prim.Native.Nat.{_-_, _*_, _≤_};
+ghost use Prim.Native.Nat.{_*_, _≤_};
 ghost use lib.ListN.{length, replicate};
 ghost use Rattle.table.specs.Refusals.{most};
-ghost use Rattle.plan.specs.Plan.{planOf};
+ghost use Rattle.plan.specs.Plan.{padded, planOf};
 
 // The words of the most coordinates.
 pub const WORDS: usize = 4 * table::MOST;
@@ -41,7 +40,7 @@ pub fn new(n: usize, k: usize, side: Side, weight: Weight, scale: Element, point
 // The words, and zeros behind them.
 fn padded(point: &[u32]) -> [u32; WORDS]
     requires { ⌜ length (now point) ≤ 4 * most ⌝ }
-    ensures { λ r. ⌜ r ≡ now (point .entry) ++ replicate (4 * most - length (now (point .entry))) 0 ⌝ }
+    ensures { λ r. ⌜ r ≡ padded (now (point .entry)) ⌝ }
 {
     let mut words = room();
     for i in 0..point.len() {

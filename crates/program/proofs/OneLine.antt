@@ -4,7 +4,6 @@ use mathlib.Core.Bool.{Bool, true, false, cond}
 use Prim.Native.Nat.{ℕ, zero, suc, _+_, _*_, _^_, _≤_}
 use native.Mathlib.Omega.{arith}
 use mathlib.Core.List.{List, []}
-use lib.Dec.{ltb}
 use lib.ListN.{length}
 use Rattle.table.specs.declared.Refusal.{Refusal}
 use Rattle.table.specs.declared.Verdict.the-variants.{Accepted, Refused}
@@ -38,11 +37,6 @@ done-is-ten r x e = rw e
 silent : (r : Reader) → isDone (r .phase) ≡ false → (out : List ℕ) → [] ≡ doneText r out
 silent r e out = rw e
 
--- a choice between two readers of one phase
-either : (t : Bool) (a b : Reader) → a .phase ≡ b .phase → cond t a b .phase ≡ b .phase
-either true a b e = e
-either false a b e = refl
-
 -- an accepted line: what it leaves and prints
 module _ (r : Reader) (x : Frame) (accepted : lineAnswer r x ≡ 0) where
   pub goes-on : isDone (r .phase) ≡ false
@@ -55,8 +49,7 @@ module _ (r : Reader) (x : Frame) (accepted : lineAnswer r x ≡ 0) where
   -- out is printed at `04`, and then only
   by-kind : (k : Kind) (out : List ℕ) → outText k (record { reader = r; out = out }) ≡ doneText (taken k r x) (outBy k r x out)
   by-kind kind.Open out = refl
-  by-kind kind.Coordinate out =
-      silent (taken kind.Coordinate r x) (ap isDone (either (ltb (x .index) (r .session .plan .k)) _ _ refl) ∙ goes-on) out
+  by-kind kind.Coordinate out = silent (taken kind.Coordinate r x) goes-on out
   by-kind kind.Words out = refl
   by-kind kind.Close out = refl
   by-kind kind.NoFrame out = silent r goes-on out

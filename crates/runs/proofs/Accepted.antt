@@ -1,13 +1,14 @@
 -- What an accepted line says of its arguments, kind by kind. Assumes nothing.
 use mathlib.Core.Path.{_≡_, sym, subst}
 use mathlib.Core.Bool.{false}
-use Prim.Native.Nat.{_+_, _-_, _≤_}
+use Prim.Native.Nat.{_+_, _-_, _≤_, _<_}
 use native.Mathlib.Omega.{arith}
 use lib.ListN.{length}
-use borrow.Author.Tests.{ltb-false}
+use borrow.Author.Tests.{ltb-false, leb-false}
 use Rattle.algebra.specs.Words.{unreduced}
 use Rattle.field.specs.Field.{p, Reduced}
 use Rattle.table.specs.Refusals.{most}
+use Rattle.table.proofs.Tests.{same}
 use Rattle.table.proofs.Verdicts.{Numbered, Clear, clear}
 use Rattle.plan.specs.Plan.{capacity}
 use Rattle.frame.specs.declared.Kind.{Kind}
@@ -15,7 +16,7 @@ use Rattle.frame.specs.declared.Kind.the-variants.{Open, Coordinate, Words, Clo
 use Rattle.frame.specs.declared.Frame.{Frame}
 use Rattle.frame.specs.Frame.{wordsOf}
 use Rattle.runs.specs.declared.Reader.{Reader}
-use Rattle.runs.specs.Reader.{mostPlaces, openTests, kindTests, lineTests, lineAnswer}
+use Rattle.runs.specs.Reader.{mostPlaces, openTests, coordinateTests, kindTests, lineTests, lineAnswer}
 
 -- an `01`
 pub record Opens (f : Frame) : Type 0 where
@@ -24,6 +25,12 @@ pub record Opens (f : Frame) : Type 0 where
   pub fits : f .k ≤ f .n
   pub few : f .n - f .k ≤ mostPlaces
   pub scale-is : Reduced (f .element)
+
+-- an `02`
+pub record Notes (r : Reader) (f : Frame) : Type 0 where
+  pub next : f .index ≡ r .came
+  pub below : f .index < r .session .plan .k
+  pub coordinate-is : Reduced (f .element)
 
 -- an `03`
 pub record Feeds (r : Reader) (f : Frame) : Type 0 where
@@ -38,6 +45,16 @@ open-clear f h =
       fits = ltb-false _ _ (h .1 .1 .0);
       few = ltb-false _ _ (h .1 .1 .1 .1 .0);
       scale-is = record { words-below = h .1 .1 .1 .0 };
+    }
+
+pub notes-clear : (r : Reader) (f : Frame) → Clear (coordinateTests r f) → Notes r f
+notes-clear r f h =
+    let first = h .0 in
+    let second = h .1 .0 in
+    record {
+      next = omega (arith, same, ltb-false, leb-false);
+      below = omega (arith, same, ltb-false, leb-false);
+      coordinate-is = record { words-below = h .1 .1 .0 };
     }
 
 numbered : (k : Kind) (r : Reader) (f : Frame) → Numbered (kindTests k r f)
@@ -59,8 +76,8 @@ module _ (r : Reader) (f : Frame) (a : lineAnswer r f ≡ 0) where
   pub opens : f .kind ≡ Open → Opens f
   opens e = open-clear f (tests Open e)
 
-  pub notes : f .kind ≡ Coordinate → Reduced (f .element)
-  notes e = record { words-below = tests Coordinate e .0 }
+  pub notes : f .kind ≡ Coordinate → Notes r f
+  notes e = notes-clear r f (tests Coordinate e)
 
   pub feeds : f .kind ≡ Words → Feeds r f
   feeds e =

@@ -24,8 +24,7 @@ counted-keeps =
       opens = λ s f ws i e h.
           let z : ws ≡ [] = i .none (ap isSettled e) in
           rw z (record { count = refl; none = λ q. refl });
-      puts = λ s f ws i e h l. rw append-nil (record { count = i .count; none = i .none });
-      strays = λ s f ws i e h. rw append-nil (record { count = i .count; none = i .none });
+      notes = λ s f ws i e h l. rw append-nil (record { count = i .count; none = i .none });
       takes = λ s f ws i h.
           record { count = ap (λ n. n + length (wordsOf f)) (i .count) ∙ sym (length-append ws (wordsOf f)); none = λ q. never q };
       closes = λ s f ws i h. rw append-nil (record { count = i .count; none = λ q. never q });

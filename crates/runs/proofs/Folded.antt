@@ -71,19 +71,12 @@ folded-keeps =
                 opened-folds f (s .out) h (i .room (ap isOpened e))
                 ∙ ap (λ l. foldOf (opened f .session .plan) (l ++ [])) (sym (i .counted .none (ap isSettled e)));
           };
-      puts = λ s f ws i e h l.
+      notes = λ s f ws i e h l.
           rw append-nil
           (record {
-            counted = rw append-nil at (counted-keeps .puts s f ws (i .counted) e h l);
+            counted = rw append-nil at (counted-keeps .notes s f ws (i .counted) e h l);
             room = i .room;
             folds = λ q. put-folds s ws i e (f .index) (f .element);
-          });
-      strays = λ s f ws i e h.
-          rw append-nil
-          (record {
-            counted = rw append-nil at (counted-keeps .strays s f ws (i .counted) e h);
-            room = i .room;
-            folds = i .folds;
           });
       takes = λ s f ws i h.
           record {

@@ -22,8 +22,7 @@ opened-keeps =
       opens = λ s f os i e h.
           let z : os ≡ [] = i .none (ap isOpened e) in
           rw z (record { none = λ q. never q; held = λ q. refl });
-      puts = λ s f os i e h l. rw append-nil (record { none = i .none; held = i .held });
-      strays = λ s f os i e h. rw append-nil (record { none = i .none; held = i .held });
+      notes = λ s f os i e h l. rw append-nil (record { none = i .none; held = i .held });
       takes = λ s f os i h. rw append-nil (record { none = λ q. never q; held = λ q. i .held (h .opened) });
       closes = λ s f os i h. rw append-nil (record { none = λ q. never q; held = λ q. i .held (h .opened) });
     }

@@ -4,12 +4,12 @@ use Prim.Native.Nat.{ℕ, _*_, _^_}
 use mathlib.Core.List.{List, []}
 use lib.ListN.{length}
 use Rattle.runs.specs.Reader.{mostPlaces}
-use Rattle.runs.specs.Runs.{start, after, openingBy, wordsBy, elementBy, openings, joined, given, Runs}
+use Rattle.runs.specs.Runs.{start, after, openingBy, wordsBy, coordinateBy, openings, joined, given, Runs}
 use Rattle.runs.proofs.Steps.{lines-keep}
 use Rattle.runs.proofs.Opened.{Opened, opened-start, opened-keeps}
 use Rattle.runs.proofs.Counted.{Counted, counted-start, counted-keeps}
 use Rattle.runs.proofs.Folded.{Folded, folded-start, folded-keeps}
-use Rattle.runs.proofs.Given.{Given, given-start, given-keeps, given-once, given-none}
+use Rattle.runs.proofs.Given.{Given, given-start, given-keeps, given-all}
 
 opened : (ls : List (List ℕ)) (out : List ℕ) → Opened (after ls (start out)) (openings ls (start out))
 opened ls out = lines-keep openingBy Opened opened-keeps openings (λ s. refl) (λ l ls s. refl) ls (start out) [] (opened-start out)
@@ -20,10 +20,8 @@ counted ls out = lines-keep wordsBy Counted counted-keeps joined (λ s. refl) (�
 folded : (ls : List (List ℕ)) (out : List ℕ) → length out ≡ 4 * 2 ^ mostPlaces → Folded (after ls (start out)) (joined ls (start out))
 folded ls out l = lines-keep wordsBy Folded folded-keeps joined (λ s. refl) (λ l ls s. refl) ls (start out) [] (folded-start out l)
 
-were-given : (i : ℕ) (ls : List (List ℕ)) (out : List ℕ) → Given i (after ls (start out) .reader) (given i ls (start out))
-were-given i ls out =
-    lines-keep (λ k f. elementBy k i f) (λ s es. Given i (s .reader) es) (given-keeps i) (given i) (λ s. refl) (λ l ls s. refl) ls
-    (start out) [] (given-start i)
+were-given : (ls : List (List ℕ)) (out : List ℕ) → Given (after ls (start out)) (given ls (start out))
+were-given ls out = lines-keep coordinateBy Given given-keeps given (λ s. refl) (λ l ls s. refl) ls (start out) [] (given-start out)
 
 pub runs : Runs
 runs =
@@ -32,6 +30,6 @@ runs =
       opened-by = λ ls out q. opened ls out .held q;
       folds = λ ls out l q. folded ls out l .folds q;
       takes = λ ls out. counted ls out .count;
-      each-once = λ ls out z i h. given-once i _ _ (were-given i ls out) z h;
-      none-beyond = λ ls out z i h. given-none i _ _ (were-given i ls out) z h;
+      in-order = λ ls out. were-given ls out .coordinates;
+      none-missing = λ ls out q. given-all _ _ (were-given ls out) q;
     }

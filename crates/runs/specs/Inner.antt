@@ -7,4 +7,4 @@ use Rattle.runs.specs.declared.Reader.{Reader}
 -- the same state in another phase, with so many words taken
 abbrev pub markedAs : Reader → Phase → ℕ → Reader
 markedAs r phase taken =
-    record { phase = phase; session = sessionOf (r .session .plan) taken (r .session .closed); given = r .given; beyond = r .beyond }
+    record { phase = phase; session = sessionOf (r .session .plan) taken (r .session .closed); came = r .came }

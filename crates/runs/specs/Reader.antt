@@ -1,10 +1,11 @@
--- The program's state and one step of it, a line (document 01, "Frames" and "Program, line by line"). Assumes nothing.
+-- The program's state and one step of it, a line (document 01, "Frames" and "Program, line by line"; document 02, request (b), for the
+-- coordinates). Assumes nothing.
 use mathlib.Core.Path.{_≡_}
-use Prim.Native.Nat.{ℕ, zero, suc, _+_, _-_, _*_, _^_, _≤_}
-use mathlib.Core.Bool.{Bool, true, false, cond, not, _&&_, _||_}
+use Prim.Native.Nat.{ℕ, _+_, _-_, _*_, _^_, _≤_}
+use mathlib.Core.Bool.{Bool, true, false, not, _||_}
 use mathlib.Core.List.{List, [], _∷_, _++_}
-use lib.Dec.{eqb, ltb}
-use lib.ListN.{length, getD, set, take, drop, replicate}
+use lib.Dec.{eqb, leb, ltb}
+use lib.ListN.{length, take, drop, replicate}
 use Rattle.algebra.specs.Words.{unreduced}
 use Rattle.multilinear.specs.declared.Side.{Side}
 use Rattle.multilinear.specs.declared.Side.the-variants.{Prefix}
@@ -33,7 +34,7 @@ use Rattle.runs.specs.declared.Turn.{Turn}
 abbrev pub mostPlaces : ℕ
 mostPlaces = 10
 
--- "Just one `01` comes first; coordinates come in any order before the first `03` or `04`"
+-- "Just one `01` comes first"; coordinates come "before the first `03` or `04`"
 abbrev pub placeOf : Phase → Place
 placeOf phase.Start = record { opening = true; coordinates = false; words = false }
 placeOf phase.Points = record { opening = false; coordinates = true; words = true }
@@ -52,15 +53,9 @@ inPlace place kind.NoFrame = false
 abbrev pub isDone : Phase → Bool
 isDone phase = not (placeOf phase .opening || placeOf phase .coordinates || placeOf phase .words)
 
--- each of the first k counts is one
-unfoldable pub onceEach : ℕ → List ℕ → Bool
-onceEach zero counts = true
-onceEach (suc k) [] = false
-onceEach (suc k) (c ∷ counts) = eqb c 1 && onceEach k counts
-
--- 13, at the first `03` or `04`: "coordinates missing, repeated or index at or above k"
-abbrev pub misplaced : Reader → Bool
-misplaced r = placeOf (r .phase) .coordinates && (r .beyond || not (onceEach (r .session .plan .k) (r .given)))
+-- 13, at the first `03` or `04`: coordinates missing. From then on none are (`none-missing` of Runs.antt)
+abbrev pub missing : Reader → Bool
+missing r = ltb (r .came) (r .session .plan .k)
 
 -- "Then at `01`: 3, 4 (k above n), 5, 3 (n - k over 10)"
 abbrev pub openTests : Frame → List Test
@@ -72,26 +67,31 @@ openTests f =
     ∷ ltb mostPlaces (f .n - f .k) gives 3
     ∷ []
 
--- "At `02`: 5"
-abbrev pub coordinateTests : Frame → List Test
-coordinateTests f = unreduced p (f .element .c) gives 5 ∷ []
+-- At `02`: 13, 5. "The index starts at 00 and rises by one. A frame with any other index, or one at or above k, gets 13 at that frame,
+-- before 5"
+abbrev pub coordinateTests : Reader → Frame → List Test
+coordinateTests r f =
+    not (eqb (f .index) (r .came)) gives 13
+    ∷ leb (r .session .plan .k) (f .index) gives 13
+    ∷ unreduced p (f .element .c) gives 5
+    ∷ []
 
 -- "At `03`: 5, 8", after 13
 abbrev pub wordsTests : Reader → Frame → List Test
 wordsTests r f =
-    misplaced r gives 13
+    missing r gives 13
     ∷ unreduced p (wordsOf f) gives 5
     ∷ ltb (capacity (r .session .plan)) (r .session .taken + length (wordsOf f)) gives 8
     ∷ []
 
 -- at `04`
 abbrev pub closeTests : Reader → List Test
-closeTests r = misplaced r gives 13 ∷ []
+closeTests r = missing r gives 13 ∷ []
 
 -- a kind's own tests
 abbrev pub kindTests : Kind → Reader → Frame → List Test
 kindTests kind.Open r f = openTests f
-kindTests kind.Coordinate r f = coordinateTests f
+kindTests kind.Coordinate r f = coordinateTests r f
 kindTests kind.Words r f = wordsTests r f
 kindTests kind.Close r f = closeTests r
 kindTests kind.NoFrame r f = []
@@ -117,8 +117,7 @@ started =
     record {
       phase = phase.Start;
       session = sessionBy 0 0 Prefix Plain (record { c = 0 ∷ 0 ∷ 0 ∷ 0 ∷ [] });
-      given = replicate most 0;
-      beyond = false;
+      came = 0;
     }
 
 -- at `01`: the session of the frame's arguments, every coordinate 0 as yet
@@ -127,8 +126,7 @@ opened f =
     record {
       phase = phase.Points;
       session = sessionBy (f .n) (f .k) (f .side) (f .weight) (f .element);
-      given = replicate most 0;
-      beyond = false;
+      came = 0;
     }
 
 -- the same plan, with other coordinates
@@ -140,22 +138,10 @@ withCoordinates plan ws =
 abbrev pub withCoordinate : Session → ℕ → Element → Session
 withCoordinate s i e = sessionOf (withCoordinates (s .plan) (putAt (s .plan .coordinates) i e)) (s .taken) (s .closed)
 
--- none, once, more than once
-abbrev pub onceMore : ℕ → ℕ
-onceMore zero = 1
-onceMore (suc c) = 2
-
--- at `02`: the coordinate in its place, and that it was given
+-- at `02`: the coordinate in its place, and one more has come
 abbrev pub noted : Reader → Frame → Reader
 noted r f =
-    cond (ltb (f .index) (r .session .plan .k))
-    (record {
-      phase = r .phase;
-      session = withCoordinate (r .session) (f .index) (f .element);
-      given = set (r .given) (f .index) (onceMore (getD (r .given) (f .index) 0));
-      beyond = r .beyond;
-    })
-    (record { phase = r .phase; session = r .session; given = r .given; beyond = true })
+    record { phase = r .phase; session = withCoordinate (r .session) (f .index) (f .element); came = r .came + 1 }
 
 -- at `03`: the words are taken
 abbrev pub counted : Reader → Frame → Reader
@@ -163,13 +149,12 @@ counted r f =
     record {
       phase = phase.Words;
       session = sessionOf (r .session .plan) (r .session .taken + length (wordsOf f)) (r .session .closed);
-      given = r .given;
-      beyond = r .beyond;
+      came = r .came;
     }
 
 -- at `04`
 abbrev pub done : Reader → Reader
-done r = record { phase = phase.Done; session = r .session; given = r .given; beyond = r .beyond }
+done r = record { phase = phase.Done; session = r .session; came = r .came }
 
 -- what an accepted line does to the state
 abbrev pub taken : Kind → Reader → Frame → Reader

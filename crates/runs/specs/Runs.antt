@@ -1,16 +1,14 @@
 -- What holds after every list of lines, for readers. Assumes nothing.
 use mathlib.Core.Path.{_≡_}
-use Prim.Native.Nat.{ℕ, _*_, _^_, _<_, _≤_}
-use mathlib.Core.Bool.{Bool, true, false, cond}
+use Prim.Native.Nat.{ℕ, _*_, _^_}
+use mathlib.Core.Bool.{Bool, true, false}
 use mathlib.Core.List.{List, [], _∷_, _++_}
-use lib.Dec.{eqb}
 use lib.ListN.{length, take}
 use Rattle.multilinear.specs.declared.Side.{Side}
 use Rattle.multilinear.specs.declared.Weight.{Weight}
 use Rattle.field.specs.declared.Element.{Element}
-use Rattle.table.specs.Table.{getAt}
 use Rattle.table.specs.Refusals.{leaves}
-use Rattle.plan.specs.Plan.{foldOf}
+use Rattle.plan.specs.Plan.{padded, foldOf}
 use Rattle.ledger.specs.declared.Session.{Session}
 use Rattle.frame.specs.declared.Kind.{Kind}
 use Rattle.frame.specs.declared.Kind.the-variants as kind
@@ -63,12 +61,12 @@ wordsBy kind.Coordinate f = []
 wordsBy kind.Close f = []
 wordsBy kind.NoFrame f = []
 
-abbrev pub elementBy : Kind → ℕ → Frame → List Element
-elementBy kind.Coordinate i f = cond (eqb (f .index) i) (f .element ∷ []) []
-elementBy kind.Open i f = []
-elementBy kind.Words i f = []
-elementBy kind.Close i f = []
-elementBy kind.NoFrame i f = []
+abbrev pub coordinateBy : Kind → Frame → List ℕ
+coordinateBy kind.Coordinate f = f .element .c
+coordinateBy kind.Open f = []
+coordinateBy kind.Words f = []
+coordinateBy kind.Close f = []
+coordinateBy kind.NoFrame f = []
 
 -- what the accepted `01` lines give, in order
 abbrev pub openings : List (List ℕ) → State → List Opening
@@ -80,10 +78,10 @@ abbrev pub joined : List (List ℕ) → State → List ℕ
 joined [] s = []
 joined (l ∷ ls) s = leaves (numberOf s l) (wordsBy (frameOf l .kind) (frameOf l)) [] ++ joined ls (step l s)
 
--- the coordinates that the accepted `02` lines give for index i, in order
-abbrev pub given : ℕ → List (List ℕ) → State → List Element
-given i [] s = []
-given i (l ∷ ls) s = leaves (numberOf s l) (elementBy (frameOf l .kind) i (frameOf l)) [] ++ given i ls (step l s)
+-- the coordinates of the accepted `02` lines, their words joined in order
+abbrev pub given : List (List ℕ) → State → List ℕ
+given [] s = []
+given (l ∷ ls) s = leaves (numberOf s l) (coordinateBy (frameOf l .kind) (frameOf l)) [] ++ given ls (step l s)
 
 -- an `01` was accepted; a `03` or `04` was
 abbrev pub isOpened : Phase → Bool
@@ -111,10 +109,9 @@ pub record Runs : Type 0 where
       ≡ foldOf (s .reader .session .plan) (joined ls (start out))
   -- and the words taken are as many
   pub takes : (ls : List (List ℕ)) (out : List ℕ) → after ls (start out) .reader .session .taken ≡ length (joined ls (start out))
-  -- from the first `03` or `04` on, each coordinate was given just once
-  pub each-once : (ls : List (List ℕ)) (out : List ℕ) → isSettled (after ls (start out) .reader .phase) ≡ true
-      → (i : ℕ) → i < after ls (start out) .reader .session .plan .k
-      → given i ls (start out) ≡ getAt (after ls (start out) .reader .session .plan .coordinates) i ∷ []
-  -- and none beside them
-  pub none-beyond : (ls : List (List ℕ)) (out : List ℕ) → isSettled (after ls (start out) .reader .phase) ≡ true
-      → (i : ℕ) → after ls (start out) .reader .session .plan .k ≤ i → given i ls (start out) ≡ []
+  -- the coordinates are those of the accepted `02` lines, in their order, and 0 where none has come yet
+  pub in-order : (ls : List (List ℕ)) (out : List ℕ)
+      → after ls (start out) .reader .session .plan .coordinates ≡ padded (given ls (start out))
+  -- from the first `03` or `04` on there are k of them
+  pub none-missing : (ls : List (List ℕ)) (out : List ℕ) → isSettled (after ls (start out) .reader .phase) ≡ true
+      → length (given ls (start out)) ≡ 4 * after ls (start out) .reader .session .plan .k

@@ -16,12 +16,11 @@ pub struct Place {
     pub words: bool,
 }
 
-// The session as the frames give it, how often each coordinate was given (none, once, more), and whether one was beyond k.
+// The session as the frames give it, and how many coordinates have come.
 pub struct Reader {
     pub phase: Phase,
     pub session: Session,
-    pub given: [u32; table::MOST],
-    pub beyond: bool,
+    pub came: usize,
 }
 
 // An answer with the state beside it.

@@ -4,18 +4,29 @@ use mathlib.Core.Bool.{false}
 use Prim.Native.Nat.{ℕ, zero, suc, _+_, _-_, _*_, _≤_, _<_}
 use native.Mathlib.Nat.{zero-add, add-zero, add-suc}
 use native.Mathlib.Omega.{arith}
-use mathlib.Core.List.{List, _∷_, _++_, append-nil}
+use mathlib.Core.List.{List, [], _∷_, _++_, append-nil}
 use borrow.Rule.Slice.PartMut.{putMid, post-is}
 use lib.ListN.{length, getD, take, drop, replicate, length-append, length-drop, length-replicate, List·getD-append}
-use lib.Seq.{drop-length, getD-drop, getD-take, length-take-le, take-all, take-at}
+use lib.Seq.{drop-length, getD-drop, getD-take, length-take-le, sets-eq, take-all, take-at}
 use Rattle.algebra.specs.Ring.{Ops}
 use Rattle.algebra.specs.Words.{unreduced}
-use Rattle.field.specs.Field.{p, p-pos, field, toWords, fromWords, Reduced}
+use Rattle.field.specs.Field.{p, p-pos, field, at, toWords, fromWords, Reduced}
 use Rattle.field.specs.declared.Element.{Element}
-use Rattle.field.proofs.Laws.{word-below, zero-law}
+use Rattle.field.proofs.Laws.{four, word-below, zero-law}
 use Rattle.table.specs.Table.{tableWords, getAt, putAt, elementAt, elements}
 use Rattle.table.proofs.Laws.{table-whole}
 use Rattle.algebra.proofs.Words.{unreduced-drop, unreduced-set, unreduced-take}
+
+-- a put: the words before element i, its own, and those after it
+pub put-parts : (ws : List ℕ) (i : ℕ) (e : Element) → 4 * i + 4 ≤ length ws → length (e .c) ≡ 4
+    → putAt ws i e ≡ take (4 * i) ws ++ e .c ++ drop (4 * i + 4) ws
+unfolding putAt
+put-parts ws i e h l =
+    let vs : List ℕ = at e 0 ∷ at e 1 ∷ at e 2 ∷ at e 3 ∷ [] in
+    let q1 : 4 * i + 1 ≡ suc (4 * i) = omega arith in
+    let q2 : 4 * i + 2 ≡ suc (suc (4 * i)) = omega arith in
+    let q3 : 4 * i + 3 ≡ suc (suc (suc (4 * i))) = omega arith in
+    rw (q1, q2, q3) (sets-eq vs ws (4 * i) h) ∙ ap (λ x. take (4 * i) ws ++ x ++ drop (4 * i + 4) ws) (sym (four (e .c) l))
 
 -- an element put keeps the words reduced
 pub unreduced-put : (ws : List ℕ) (i : ℕ) {e : Element} → Reduced e → unreduced p ws ≡ false → unreduced p (putAt ws i e) ≡ false

@@ -5,4 +5,4 @@ use Rattle.frames.proofs.open.Tie as tie
 
 pub open-spec : {M : Type 1} → statement M
 open-spec =
-    tie.close (tie.spec (search needs) (search needs) (λ c. rw (c .counts .ensures, c .before .session-of .ensures)))
+    tie.close (tie.spec (search needs) (λ c. rw (c .session-of .ensures)))

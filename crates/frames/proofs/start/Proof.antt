@@ -6,7 +6,7 @@ use Rattle.frames.proofs.start.Tie as tie
 
 returns : tie.Need-returns
 unfolding started
-returns c = rw (c .counts .ensures, c .before .session-of .ensures)
+returns c = rw (c .session-of .ensures)
 
 pub start-spec : {M : Type 1} → statement M
-start-spec = tie.close (tie.spec (search needs) (search needs) returns)
+start-spec = tie.close (tie.spec (search needs) returns)

@@ -2,7 +2,7 @@
 use mathlib.Core.Path.{refl}
 use borrow.Author.Needs.{needs}
 use Rattle.frame.specs.declared.Kind.the-variants.{Open, Coordinate, Words, Close, NoFrame}
-use Rattle.frames.proofs.Keeping.{limits, took}
+use Rattle.frames.proofs.Keeping.{hands-coordinate, took}
 use Rattle.frames.proofs.take.Statement.{statement}
 use Rattle.frames.proofs.take.Tie as tie
 
@@ -26,7 +26,7 @@ take-spec =
     (search needs)
     (search needs)
     (search needs)
-    (λ c κs. limits (c .before .before .before .pre .ready))
+    (λ c κs. let t = c .before .before .before .pre in hands-coordinate _ _ _ (t .ready) (t .accepted) (c .enum-told2 .given .1))
     (search needs)
     (λ c κs. (c .before .enum-told3 .given .1, c .before .before .before .before .pre))
     (search needs)

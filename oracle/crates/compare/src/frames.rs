@@ -25,9 +25,9 @@ type Pairs = &'static [(u32, u32)];
 /// once: k is above n, or much below it; before `01` no coordinates are asked.
 const REFUSALS: [(Place, Numbers, Pairs); 7] = [
     (Head, &[12, 3, 4, 5, 3], &[(4, 3)]),
-    (Coordinate, &[12, 5], &[]),
-    (Rows, &[12, 13, 13, 13, 5, 8], &[]),
-    (Stop, &[12, 13, 13, 13], &[(12, 13)]),
+    (Coordinate, &[12, 13, 13, 5], &[]),
+    (Rows, &[12, 13, 5, 8], &[]),
+    (Stop, &[12, 13], &[(12, 13)]),
     (NoFrame, &[12], &[]),
     (After, &[10], &[]),
     (End, &[9], &[]),

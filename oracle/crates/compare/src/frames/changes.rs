@@ -30,12 +30,20 @@ pub const FRAMES: &[Change] = &[
     |lines, random| spoil(lines, find_last(lines, b"02"), 4, random),
     |lines, _| put(lines, b"02", 2, b"ff"),
     |lines, _| _ = find(lines, b"02").map(|at| lines.remove(at)),
+    |lines, _| _ = find_last(lines, b"02").map(|at| lines.remove(at)),
     |lines, _| copy(lines, b"02", 0),
     |lines, _| copy(lines, b"02", 1),
     |lines, random| insert(lines, 1, coordinate(14, random)),
+    |lines, random| insert(lines, fed(lines), coordinate(0, random)),
+    |lines, random| insert(lines, fed(lines), coordinate(14, random)),
     |lines, random| {
-        let at = find(lines, b"03").map_or(1, |at| at + 1);
-        insert(lines, at, coordinate(0, random));
+        let coordinates = count(lines, b"02");
+        insert(lines, 1 + coordinates, coordinate(coordinates as u8, random));
+    },
+    |lines, _| {
+        if let (Some(first), Some(last)) = (find(lines, b"02"), find_last(lines, b"02")) {
+            lines.swap(first, last);
+        }
     },
     // Words.
     |lines, random| spoil(lines, find(lines, b"03"), 4, random),
@@ -116,6 +124,15 @@ fn find(lines: &Lines, kind: &[u8]) -> Option<usize> {
 
 fn find_last(lines: &Lines, kind: &[u8]) -> Option<usize> {
     lines.iter().rposition(|line| line.starts_with(kind))
+}
+
+fn count(lines: &Lines, kind: &[u8]) -> usize {
+    lines.iter().filter(|line| line.starts_with(kind)).count()
+}
+
+/// After the first `03`.
+fn fed(lines: &Lines) -> usize {
+    find(lines, b"03").map_or(1, |at| at + 1)
 }
 
 /// Where the first `03` or `04` is.

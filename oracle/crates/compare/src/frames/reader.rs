@@ -1,5 +1,6 @@
 //! What foldframes must print, by document 01's "Frames" and "Program, line by
-//! line". Out is that of the library's fold session, and of the Rust's folds.
+//! line", and document 02's (b) for the coordinates. Out is that of the library's
+//! fold session, and of the Rust's folds.
 
 use calls::{MOST, Tests, unreduced};
 
@@ -35,7 +36,7 @@ pub enum Place {
 struct Reader {
     /// Open's arguments.
     head: Option<Step>,
-    coordinates: Vec<(u8, Vec<u32>)>,
+    coordinates: Vec<Vec<u32>>,
     began: bool,
     table: Vec<u32>,
     closed: bool,
@@ -85,44 +86,37 @@ impl Reader {
                 ];
                 (Head, tests)
             }
-            [2, _, ref element @ ..] if element.len() == 16 => {
-                let tests = vec![(early || self.began, 12), (unreduced([&words(element)]), 5)];
+            [2, index, ref element @ ..] if element.len() == 16 => {
+                let index = index as usize;
+                let tests = vec![
+                    (early || self.began, 12),
+                    (index != self.coordinates.len(), 13),
+                    (self.k().is_some_and(|k| index >= k), 13),
+                    (unreduced([&words(element)]), 5),
+                ];
                 (Coordinate, tests)
             }
             [3, count, ref piece @ ..] if piece.len() == 4 * count as usize => {
-                let mut tests = vec![(early || count > MOST_WORDS, 12)];
-                tests.extend(self.misfits());
-                tests.push((unreduced([&words(piece)]), 5));
-                tests.push((self.passes(count), 8));
+                let tests = vec![
+                    (early || count > MOST_WORDS, 12),
+                    (self.lacks(), 13),
+                    (unreduced([&words(piece)]), 5),
+                    (self.passes(count), 8),
+                ];
                 (Rows, tests)
             }
-            [4] => {
-                let mut tests = vec![(early, 12)];
-                tests.extend(self.misfits());
-                (Stop, tests)
-            }
+            [4] => (Stop, vec![(early, 12), (self.lacks(), 13)]),
             _ => (NoFrame, vec![(true, 12)]),
         }
     }
 
-    /// Coordinates missing, repeated, or with an index at or above k.
-    fn misfits(&self) -> [(bool, u32); 3] {
-        let k = match &self.head {
-            Some(head) if !self.began => head.point.len() / 4,
-            _ => return [(false, 13); 3],
-        };
-        let count = |i| {
-            self.coordinates
-                .iter()
-                .filter(|(index, _)| *index == i)
-                .count()
-        };
-        [
-            (0..k as u8).any(|i| count(i) == 0),
-            self.coordinates.iter().any(|(i, _)| count(*i) > 1),
-            self.coordinates.iter().any(|(i, _)| *i as usize >= k),
-        ]
-        .map(|holds| (holds, 13))
+    fn k(&self) -> Option<usize> {
+        self.head.as_ref().map(|head| head.point.len() / 4)
+    }
+
+    /// Coordinates are missing at the first `03` or `04`.
+    fn lacks(&self) -> bool {
+        !self.began && self.k().is_some_and(|k| self.coordinates.len() < k)
     }
 
     /// So many words more are more than the table has.
@@ -149,7 +143,7 @@ impl Reader {
                     element: vec![0; 4],
                 });
             }
-            [2, index, ref element @ ..] => self.coordinates.push((index, words(element))),
+            [2, _, ref element @ ..] => self.coordinates.push(words(element)),
             [3, _, ref piece @ ..] => {
                 self.began = true;
                 self.table.extend(words(piece));
@@ -165,12 +159,7 @@ impl Reader {
     /// of the Rust's fold of all of them.
     fn outs(&mut self) -> Vec<Vec<u32>> {
         let step = self.head.as_mut().unwrap();
-        self.coordinates.sort();
-        step.point = self
-            .coordinates
-            .iter()
-            .flat_map(|(_, element)| element.clone())
-            .collect();
+        step.point = self.coordinates.concat();
         let fed = self.table.len();
         self.table.resize(1 << step.n, 0);
         let (came, missing) = self.table.split_at(fed);

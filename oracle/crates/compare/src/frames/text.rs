@@ -22,14 +22,11 @@ pub fn piece(count: u8, random: &mut Random) -> Vec<u8> {
 }
 
 /// The lines of an input that is accepted: its side and weight by `choice`, its
-/// coordinates in any order, its words in pieces.
+/// coordinates in order, its words in pieces.
 pub fn fitting(choice: u8, n: u8, k: u8, words: usize, random: &mut Random) -> Vec<Vec<u8>> {
     let head = [1, choice % 2, choice / 2 % 3, n, k];
     let mut lines = vec![frame(&head, &random.elements(4))];
-    for index in 0..k {
-        let at = 1 + random.below(lines.len() as u32) as usize;
-        lines.insert(at, coordinate(index, random));
-    }
+    lines.extend((0..k).map(|index| coordinate(index, random)));
     let mut left = words;
     while left > 0 {
         let count = match words {
