@@ -7,7 +7,7 @@ use mathlib.Core.List.{List, []}
 use lib.ListN.{length}
 use Rattle.table.specs.declared.Refusal.{Refusal}
 use Rattle.table.specs.declared.Verdict.the-variants.{Accepted, Refused}
-use Rattle.table.specs.Refusals.{number, answer, verdict, leaves}
+use Rattle.table.specs.Refusals.{number, answer, verdict}
 use Rattle.table.proofs.Answers.{number-some}
 use Rattle.frame.specs.declared.Kind.{Kind}
 use Rattle.frame.specs.declared.Kind.the-variants as kind
@@ -16,7 +16,6 @@ use Rattle.frame.specs.Frame.{frameOf}
 use Rattle.runs.specs.declared.Reader.{Reader}
 use Rattle.runs.specs.declared.Turn.{Turn}
 use Rattle.runs.specs.Reader.{mostPlaces, isDone, lineAnswer, taken, outBy, turn, turned, outAfter, Ready}
-use Rattle.program.specs.declared.Program.{Program}
 use Rattle.program.specs.declared.Fed.{Fed}
 use Rattle.program.specs.Printed.{outText, unlessRefused, refusalLine}
 use Rattle.program.specs.Blocks.{mostText, Feeding, isRefused, lineEnded, feedingOf, Going}

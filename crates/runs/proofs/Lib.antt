@@ -4,4 +4,5 @@ pub mod Opened
 pub mod Counted
 pub mod Folded
 pub mod Given
+pub mod Indexed
 pub mod Runs

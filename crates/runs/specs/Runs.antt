@@ -1,6 +1,6 @@
 -- What holds after every list of lines, for readers. Assumes nothing.
 use mathlib.Core.Path.{_≡_}
-use Prim.Native.Nat.{ℕ, _*_, _^_}
+use Prim.Native.Nat.{ℕ, zero, suc, _*_, _^_}
 use mathlib.Core.Bool.{Bool, true, false}
 use mathlib.Core.List.{List, [], _∷_, _++_}
 use lib.ListN.{length, take}
@@ -16,7 +16,6 @@ use Rattle.frame.specs.declared.Frame.{Frame}
 use Rattle.frame.specs.Frame.{frameOf, wordsOf}
 use Rattle.runs.specs.declared.Phase.{Phase}
 use Rattle.runs.specs.declared.Phase.the-variants as phase
-use Rattle.runs.specs.declared.Reader.{Reader}
 use Rattle.runs.specs.Reader.{started, used, mostPlaces}
 use Rattle.runs.specs.State.{State, numberOf, step}
 
@@ -68,6 +67,13 @@ coordinateBy kind.Words f = []
 coordinateBy kind.Close f = []
 coordinateBy kind.NoFrame f = []
 
+abbrev pub indexBy : Kind → Frame → List ℕ
+indexBy kind.Coordinate f = f .index ∷ []
+indexBy kind.Open f = []
+indexBy kind.Words f = []
+indexBy kind.Close f = []
+indexBy kind.NoFrame f = []
+
 -- what the accepted `01` lines give, in order
 abbrev pub openings : List (List ℕ) → State → List Opening
 openings [] s = []
@@ -82,6 +88,16 @@ joined (l ∷ ls) s = leaves (numberOf s l) (wordsBy (frameOf l .kind) (frameOf 
 abbrev pub given : List (List ℕ) → State → List ℕ
 given [] s = []
 given (l ∷ ls) s = leaves (numberOf s l) (coordinateBy (frameOf l .kind) (frameOf l)) [] ++ given ls (step l s)
+
+-- and their indices
+abbrev pub indices : List (List ℕ) → State → List ℕ
+indices [] s = []
+indices (l ∷ ls) s = leaves (numberOf s l) (indexBy (frameOf l .kind) (frameOf l)) [] ++ indices ls (step l s)
+
+-- 0, 1, .. n - 1
+abbrev pub upTo : ℕ → List ℕ
+upTo zero = []
+upTo (suc n) = upTo n ++ n ∷ []
 
 -- an `01` was accepted; a `03` or `04` was
 abbrev pub isOpened : Phase → Bool
@@ -109,6 +125,8 @@ pub record Runs : Type 0 where
       ≡ foldOf (s .reader .session .plan) (joined ls (start out))
   -- and the words taken are as many
   pub takes : (ls : List (List ℕ)) (out : List ℕ) → after ls (start out) .reader .session .taken ≡ length (joined ls (start out))
+  -- "the index starts at 00 and rises by one": so do the accepted `02` lines
+  pub rising : (ls : List (List ℕ)) (out : List ℕ) → indices ls (start out) ≡ upTo (length (indices ls (start out)))
   -- the coordinates are those of the accepted `02` lines, in their order, and 0 where none has come yet
   pub in-order : (ls : List (List ℕ)) (out : List ℕ)
       → after ls (start out) .reader .session .plan .coordinates ≡ padded (given ls (start out))
