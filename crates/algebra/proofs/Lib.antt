@@ -6,5 +6,6 @@ pub mod Sums
 pub mod Residues
 pub mod Lowering
 pub mod Quartics
+pub mod Lines
 pub mod Words
 pub mod Numbers

@@ -2,7 +2,7 @@
 use mathlib.Core.Path.{_≡_}
 use mathlib.Core.List.{List, [], _∷_}
 use lib.Dec.{T}
-use Rattle.algebra.specs.Ring.{Ops, CommRing, minus}
+use Rattle.algebra.specs.Ring.{Ops, CommRing}
 use Rattle.algebra.specs.Quartic.{Quartic, quartic, constant}
 use Rattle.algebra.proofs.Normal.{Expr, var, zer, mul, expr-ops, agree}
 use Rattle.algebra.proofs.Solve.{solve, den}
@@ -11,66 +11,29 @@ use Rattle.algebra.proofs.Solve.{solve, den}
 pub quartic-path {ℓ} : {A : Type ℓ} {a b : Quartic A} → a .x₀ ≡ b .x₀ → a .x₁ ≡ b .x₁ → a .x₂ ≡ b .x₂ → a .x₃ ≡ b .x₃ → a ≡ b
 quartic-path p q r s = λ i. record { x₀ = p i; x₁ = q i; x₂ = r i; x₃ = s i }
 
--- the product by halves: the sum of a's halves, multiplied by b₀, b₁ and b₃·w, serves both halves of the product, and two products are added
--- to each coordinate
-module _ {ℓ} {A : Type ℓ} (O : Ops A) (w : A) (a b : Quartic A) where
-  open Ops O using (add as _⊕_, mul as _⊗_)
-
-  infixl 65 _⊕_
-  infixl 70 _⊗_
-  abbrev row : A → A → A → A → A → A → A
-  row m n x c y d = (a .x₀ ⊕ a .x₂) ⊗ m ⊕ (a .x₁ ⊕ a .x₃) ⊗ n ⊕ x ⊗ c ⊕ y ⊗ d
-
-  abbrev pub halves : Quartic A
-  halves =
-      record {
-        x₀ = row (b .x₀) (b .x₃ ⊗ w) (a .x₂) (minus O (b .x₂ ⊗ w) (b .x₀)) (a .x₃) (minus O (b .x₁ ⊗ w) (b .x₃ ⊗ w));
-        x₁ = row (b .x₁) (b .x₀) (a .x₂) (minus O (b .x₃ ⊗ w) (b .x₁)) (a .x₃) (minus O (b .x₂ ⊗ w) (b .x₀));
-        x₂ = row (b .x₀) (b .x₃ ⊗ w) (a .x₀) (minus O (b .x₂) (b .x₀)) (a .x₁) (minus O (b .x₁) (b .x₃ ⊗ w));
-        x₃ = row (b .x₁) (b .x₀) (a .x₀) (minus O (b .x₃) (b .x₁)) (a .x₁) (minus O (b .x₂) (b .x₀));
-      }
-
--- the product by rows: b, and b times w where it comes back
-module _ {ℓ} {A : Type ℓ} (O : Ops A) (w : A) (a b : Quartic A) where
-  open Ops O using (add as _⊕_, mul as _⊗_)
-
-  infixl 65 _⊕_
-  infixl 70 _⊗_
-  abbrev whole : A → A → A → A → A
-  whole c d e f = a .x₀ ⊗ c ⊕ a .x₁ ⊗ d ⊕ a .x₂ ⊗ e ⊕ a .x₃ ⊗ f
-
-  abbrev pub rows : Quartic A
-  rows =
-      record {
-        x₀ = whole (b .x₀) (b .x₃ ⊗ w) (b .x₂ ⊗ w) (b .x₁ ⊗ w);
-        x₁ = whole (b .x₁) (b .x₀) (b .x₃ ⊗ w) (b .x₂ ⊗ w);
-        x₂ = whole (b .x₂) (b .x₁) (b .x₀) (b .x₃ ⊗ w);
-        x₃ = whole (b .x₃) (b .x₂) (b .x₁) (b .x₀);
-      }
-
 -- the general elements, as expressions
-abbrev A : Quartic Expr
+abbrev pub A : Quartic Expr
 A = record { x₀ = var 1; x₁ = var 2; x₂ = var 3; x₃ = var 4 }
 
-abbrev B : Quartic Expr
+abbrev pub B : Quartic Expr
 B = record { x₀ = var 5; x₁ = var 6; x₂ = var 7; x₃ = var 8 }
 
 abbrev C : Quartic Expr
 C = record { x₀ = var 9; x₁ = var 10; x₂ = var 11; x₃ = var 12 }
 
-abbrev QE : Ops (Quartic Expr)
+abbrev pub QE : Ops (Quartic Expr)
 QE = quartic expr-ops (var 0)
 
 module _ {ℓ} {R : Type ℓ} {O : Ops R} (𝓡 : CommRing O) (w : R) where
-  abbrev env : Quartic R → Quartic R → Quartic R → List R
+  abbrev pub env : Quartic R → Quartic R → Quartic R → List R
   env a b c = w ∷ a .x₀ ∷ a .x₁ ∷ a .x₂ ∷ a .x₃ ∷ b .x₀ ∷ b .x₁ ∷ b .x₂ ∷ b .x₃ ∷ c .x₀ ∷ c .x₁ ∷ c .x₂ ∷ c .x₃ ∷ []
 
   -- an element of expressions, read
-  abbrev read : Quartic R → Quartic R → Quartic R → Quartic Expr → Quartic R
+  abbrev pub read : Quartic R → Quartic R → Quartic R → Quartic Expr → Quartic R
   read a b c e = record { x₀ = den 𝓡 (e .x₀) (env a b c); x₁ = den 𝓡 (e .x₁) (env a b c); x₂ = den 𝓡 (e .x₂) (env a b c); x₃ = den 𝓡 (e .x₃) (env a b c) }
 
   -- four equations at once
-  four : (a b c : Quartic R) (d e : Quartic Expr) → T (agree (d .x₀) (e .x₀)) → T (agree (d .x₁) (e .x₁)) → T (agree (d .x₂) (e .x₂))
+  pub four : (a b c : Quartic R) (d e : Quartic Expr) → T (agree (d .x₀) (e .x₀)) → T (agree (d .x₁) (e .x₁)) → T (agree (d .x₂) (e .x₂))
       → T (agree (d .x₃) (e .x₃)) → read a b c d ≡ read a b c e
   four a b c d e p q r s = quartic-path (solve 𝓡 (env a b c) (d .x₀) (e .x₀) p) (solve 𝓡 (env a b c) (d .x₁) (e .x₁) q) (solve 𝓡 (env a b c) (d .x₂) (e .x₂) r) (solve 𝓡 (env a b c) (d .x₃) (e .x₃) s)
 
@@ -105,11 +68,3 @@ module _ {ℓ} {R : Type ℓ} {O : Ops R} (𝓡 : CommRing O) (w : R) where
       (QE .mul (record { x₀ = var 1; x₁ = zer; x₂ = zer; x₃ = zer }) (record { x₀ = var 5; x₁ = zer; x₂ = zer; x₃ = zer }))
       (record { x₀ = mul (var 1) (var 5); x₁ = zer; x₂ = zer; x₃ = zer })
       tt tt tt tt
-
-  pub mul-halves : (a b : Quartic R) → halves O w a b ≡ quartic O w .mul a b
-  unfolding quartic
-  mul-halves a b = four a b a (halves expr-ops (var 0) A B) (QE .mul A B) tt tt tt tt
-
-  pub mul-rows : (a b : Quartic R) → rows O w a b ≡ quartic O w .mul a b
-  unfolding quartic
-  mul-rows a b = four a b a (rows expr-ops (var 0) A B) (QE .mul A B) tt tt tt tt

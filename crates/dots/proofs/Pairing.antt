@@ -1,6 +1,8 @@
 -- The sums of the products of two tables of elements, coefficient by coefficient, and what they stand for. Assumes nothing.
-use mathlib.Core.Path.{_≡_, refl, ap, ap₂, _∙_}
-use Prim.Native.Nat.{ℕ, zero, suc, _+_, _≤_}
+use mathlib.Core.Path.{_≡_, refl, sym, ap, ap₂, _∙_}
+use mathlib.Core.Bool.{true}
+use Prim.Native.Nat.{ℕ, zero, suc, _+_, _*_, _≤_}
+use native.Mathlib.Nat.{add-zero, mul-zero}
 use native.Mathlib.Numerals.{add-one}
 use native.Mathlib.Omega.{arith}
 use Rattle.algebra.specs.Ring.{Ops}
@@ -8,25 +10,35 @@ use Rattle.algebra.specs.Residue.{reduce, residues}
 use Rattle.algebra.specs.Quartic.{quartic}
 use Rattle.algebra.specs.Sum.{sumTo}
 use Rattle.algebra.specs.Words.{wordsOf, numbers}
-use Rattle.algebra.proofs.Numbers.{numbers-mul, folded, folded-add, folded-mod}
+use Rattle.algebra.specs.Lines.{gather, lines, sums}
+use Rattle.algebra.proofs.Numbers.{numbers-mul, folded, folded-add}
 use Rattle.field.specs.Field.{p, p-pos, factor, Ext, field, toWords, fromWords, at, Holds}
-use Rattle.field.specs.Inner.{coefficients, coefficient}
+use Rattle.field.specs.Product.{onceAt, backAt}
 use Rattle.field.specs.declared.Element.{Element}
 use Rattle.field.proofs.Laws.{holds, read-back}
 use Rattle.dots.specs.declared.halves.Halves.{Halves}
 use Rattle.dots.specs.declared.powers.Powers.{Powers}
-use Rattle.dots.specs.Inner.{value, Within, Kept, Each, RoomEach, Raised, settledPowers, mostGains}
+use Rattle.dots.specs.Inner.{value, Within, Kept, Each, RoomEach, coefficients, coefficient, Raised, settledPowers, mostGains}
 use Rattle.dots.proofs.Summing.{kept-none, kept-room, kept-more}
+
+-- no line that comes back gives X³
+none-back : (a b : ℕ → ℕ) → sums true 3 a b ≡ 0
+unfolding gather lines
+none-back a b = refl
+
+-- so the factor brings nothing there
+none-gained : (w n : ℕ) (a b : ℕ → ℕ) → n ≡ n + w * sums true 3 a b
+none-gained w n a b = sym (ap (λ (x : ℕ). n + w * x) (none-back a b) ∙ ap (λ (x : ℕ). n + x) (mul-zero w) ∙ add-zero n)
 
 -- the element of a product's coefficients is the field's product
 product-law : (x y : Ext) → folded p p-pos factor (coefficient (toWords x) (toWords y)) ≡ field .mul x y
-unfolding coefficients field fromWords
+unfolding coefficients onceAt backAt field fromWords
 product-law x y = words-product (toWords x) (toWords y) ∙ ap₂ (field .mul) (read-back x) (read-back y)
   where
     words-product : (a b : Element) → folded p p-pos factor (coefficient a b) ≡ field .mul (fromWords a) (fromWords b)
     words-product a b =
-        folded-mod p p-pos factor (coefficient a b)
-        ∙ numbers-mul p p-pos factor (at a 0) (at a 1) (at a 2) (at a 3) (at b 0) (at b 1) (at b 2) (at b 3)
+        ap (numbers p p-pos _ _ _) (none-gained factor (coefficient a b 3) (at a) (at b))
+        ∙ numbers-mul p p-pos factor (at a) (at b)
 
 -- from what holds of each sum, what follows of it
 each-map : {P Q : ℕ → Halves → Type 0} {s : Powers} → ((k : ℕ) (h : Halves) → P k h → Q k h) → Each P s → Each Q s

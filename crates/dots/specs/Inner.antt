@@ -4,7 +4,8 @@ use Prim.Native.Nat.{ℕ, zero, suc, _+_, _*_, _%_, _≤_}
 use mathlib.Core.List.{List, [], _∷_}
 use lib.ListN.{length, getD}
 use Rattle.field.specs.Field.{p, factor}
-use Rattle.field.specs.Inner.{unit, coefficient}
+use Rattle.field.specs.Inner.{unit}
+use Rattle.field.specs.Product.{onceAt, backAt}
 use Rattle.field.specs.declared.Element.{Element}
 use Rattle.dots.specs.declared.halves.Halves.{Halves}
 use Rattle.dots.specs.declared.powers.Powers.{Powers}
@@ -79,6 +80,14 @@ pub record Each (P : ℕ → Halves → Type 0) (s : Powers) : Type 0 where
 -- no half is too great to be settled
 abbrev pub RoomEach : Powers → Type 0
 RoomEach s = Each (λ k h. Within mostGains h) s
+
+-- the coefficients of 1, X, .. X⁶ of x y as polynomials, not reduced: by the lines of the product, those that come back last
+unfoldable pub coefficients : Element → Element → List ℕ
+coefficients x y = onceAt x y 0 ∷ onceAt x y 1 ∷ onceAt x y 2 ∷ onceAt x y 3 ∷ backAt x y 0 ∷ backAt x y 1 ∷ backAt x y 2 ∷ []
+
+-- that of X^k
+abbrev pub coefficient : Element → Element → ℕ → ℕ
+coefficient x y k = getD (coefficients x y) k 0
 
 -- r is s with x y gained
 pub record Raised (s : Powers) (x y : Element) (r : Powers) : Type 0 where

@@ -10,12 +10,12 @@ use Rattle.algebra.specs.Ring.{Ops, CommRing, minus}
 use Rattle.algebra.specs.Residue.{Residue, reduce, residues}
 use Rattle.algebra.specs.Quartic.{Quartic, quartic, constant}
 use Rattle.algebra.specs.Words.{wordsOf, numbers, unreduced}
-use Rattle.algebra.proofs.Residues.{residue-ring, reduce-mod, reduce-mul}
+use Rattle.algebra.proofs.Residues.{residue-ring, reduce-mod, reduce-mul, add-mul-mod}
 use Rattle.algebra.proofs.Quartics.{quartic-ring, constant-mul}
 use Rattle.algebra.proofs.Words.{below, words-reduced}
 use Rattle.algebra.proofs.Numbers.{numbers-again, numbers-add, numbers-sub, numbers-neg, numbers-scale, numbers-mul}
 use Rattle.field.specs.declared.Element.{Element}
-use Rattle.field.specs.Inner.{coefficients, coefficient}
+use Rattle.field.specs.Product.{onceAt, backAt}
 use Rattle.field.specs.Field.{p, p-pos, factor, Ext, field, base, toWords, fromWords, at, Reduced, Holds}
 
 pub field-ring : CommRing field
@@ -68,6 +68,16 @@ holds-again e l h = record { words = words-again e l h; below = h }
 abbrev pub words : ℕ → ℕ → ℕ → ℕ → Element
 words a0 a1 a2 a3 = record { c = a0 ∷ a1 ∷ a2 ∷ a3 ∷ [] }
 
+-- four words of an element are it, and below p
+pub four-words : (x : Ext) {a0 a1 a2 a3 : ℕ} → a0 ≡ at (toWords x) 0 → a1 ≡ at (toWords x) 1 → a2 ≡ at (toWords x) 2 → a3 ≡ at (toWords x) 3
+    → Holds (words a0 a1 a2 a3) x
+unfolding toWords wordsOf
+four-words x e0 e1 e2 e3 = holds x (rw (e0, e1, e2, e3))
+
+pub four-below : (x : Ext) {a0 a1 a2 a3 : ℕ} → a0 ≡ at (toWords x) 0 → a1 ≡ at (toWords x) 1 → a2 ≡ at (toWords x) 2 → a3 ≡ at (toWords x) 3
+    → Reduced (words a0 a1 a2 a3)
+four-below x e0 e1 e2 e3 = four-words x e0 e1 e2 e3 .below
+
 pub zero-law : words 0 0 0 0 ≡ toWords (field .zero)
 unfolding field toWords wordsOf reduce quartic residues
 zero-law = refl
@@ -113,9 +123,12 @@ module _ (x y : Element) where
   unfolding field toWords wordsOf fromWords numbers reduce
   sub-law = ap toWords (numbers-sub p p-pos factor (at x 0) (at x 1) (at x 2) (at x 3) (at y 0) (at y 1) (at y 2) (at y 3))
 
-  pub mul-law : words ((coefficient x y 0 + factor * (coefficient x y 4 % p)) % p) ((coefficient x y 1 + factor * (coefficient x y 5 % p)) % p)
-      ((coefficient x y 2 + factor * (coefficient x y 6 % p)) % p)
-      (coefficient x y 3 % p)
-      ≡ toWords (field .mul (fromWords x) (fromWords y))
-  unfolding field toWords wordsOf fromWords numbers reduce coefficients
-  mul-law = ap toWords (numbers-mul p p-pos factor (at x 0) (at x 1) (at x 2) (at x 3) (at y 0) (at y 1) (at y 2) (at y 3))
+  -- a coordinate of the product, by the sums of the lines that give it
+  abbrev coordinate : ℕ → ℕ
+  coordinate k = (onceAt x y k + factor * (backAt x y k % p)) % p
+
+  pub mul-law : words (coordinate 0) (coordinate 1) (coordinate 2) (coordinate 3) ≡ toWords (field .mul (fromWords x) (fromWords y))
+  unfolding field toWords wordsOf fromWords numbers reduce onceAt backAt
+  mul-law =
+      rw (add-mul-mod _ factor (backAt x y 0) p, add-mul-mod _ factor (backAt x y 1) p, add-mul-mod _ factor (backAt x y 2) p, add-mul-mod _ factor (backAt x y 3) p)
+      (ap toWords (numbers-mul p p-pos factor (at x) (at y)))

@@ -102,17 +102,17 @@ impl Element {
         self.add(self)
     }
 
-    // The product, by four divisions: `product` has its coordinates.
+    // The product, as sixteen lines: `product` has them.
     pub fn mul(self, other: Element) -> Self
         requires { ⌜ Reduced self × Reduced other ⌝ }
         ensures { λ r. ⌜ Holds r (field .mul (fromWords self) (fromWords other)) ⌝ }
     {
         Element {
             c: [
-                product::coordinate_0(self, other),
-                product::coordinate_1(self, other),
-                product::coordinate_2(self, other),
-                product::coordinate_3(self, other),
+                product::lines_0(self, other, other).coordinate(),
+                product::lines_1(self, other, other).coordinate(),
+                product::lines_2(self, other, other).coordinate(),
+                product::lines_3(self, other, other).coordinate(),
             ],
         }
     }

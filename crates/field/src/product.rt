@@ -1,106 +1,168 @@
-// The product of two elements. As polynomials, x y has the coefficients
+// The product of two elements, as sixteen lines: one for each pair of powers of X, by the rule X^4 = FACTOR. A line
 //
-//     at 1     x0 y0
-//     at X     x0 y1 + x1 y0
-//     at X^2   x0 y2 + x1 y1 + x2 y0
-//     at X^3   x0 y3 + x1 y2 + x2 y1 + x3 y0
-//     at X^4   x1 y3 + x2 y2 + x3 y1
-//     at X^5   x2 y3 + x3 y2
-//     at X^6   x3 y3
+//     .line(x.term_2(), y.term_3(), FACTOR, X1)
 //
-// and what stands at X^4, X^5 and X^6 comes back at 1, X and X^2, times the factor. A u64 holds four products of two words, so each
-// coefficient fits, and each coordinate is divided once.
+// says that X^2 X^3 = FACTOR X^1, and takes x's word at X^2 times y's word at X^3 to the coordinate of X^1. The contract of `line` asks that
+// the line is so, and the prover asks it of each of the sixteen. Below they stand by the power that they give, each time for the powers
+// X^0, X^1, X^2 and X^3 of x.
+//
+// What becomes of a line's product: of the four lines that give a power, the products with factor 1 make one sum and those with FACTOR
+// another (`Sums`). A u64 holds all four. `coordinate` adds the first sum and FACTOR times the second, and divides by p.
+//
+// In a line with FACTOR `back` stands for y. For a product it is y. Where y is a factor of many products it may be y times FACTOR, made
+// once, and a coordinate is then the sum of both sums (`multiplier`).
 use crate::Element;
 use crate::word;
 ghost use mathlib.Core.Path.{_≡_};
-ghost use Prim.Native.Nat.{_+_, _-_, _*_, _≤_, _%_};
+ghost use Prim.Native.Nat.{_+_, _-_, _*_, _<_, _≤_, _%_};
 ghost use Rattle.field.specs.Field.{p, factor, Reduced};
-ghost use Rattle.field.specs.Inner.{coefficient};
+ghost use Rattle.field.specs.Product.{ProductOfPowers, termOf, lined, Gathered};
 
-pub fn coordinate_0(x: Element, y: Element) -> u32
-    requires { ⌜ Reduced x × Reduced y ⌝ }
-    ensures { λ r. ⌜ r ≡ (coefficient x y 0 + factor * (coefficient x y 4 % p)) % p ⌝ }
+// The powers that a line gives.
+const X0: usize = 0;
+
+const X1: usize = 1;
+
+const X2: usize = 2;
+
+const X3: usize = 3;
+
+// The factors of lines.
+const ONE: u32 = 1;
+
+const FACTOR: u32 = Element::FACTOR;
+
+// The lines that give X^0.
+pub fn lines_0(x: Element, y: Element, back: Element) -> Sums
+    requires { ⌜ Reduced x × Reduced y × Reduced back ⌝ }
+    ensures { λ r. ⌜ Gathered x y back 0 r ⌝ }
 {
-    with_high(coefficient_0(x, y), coefficient_4(x, y))
+    Sums::none()
+        .line(x.term_0(), y.term_0(), ONE, X0)
+        .line(x.term_1(), back.term_3(), FACTOR, X0)
+        .line(x.term_2(), back.term_2(), FACTOR, X0)
+        .line(x.term_3(), back.term_1(), FACTOR, X0)
 }
 
-pub fn coordinate_1(x: Element, y: Element) -> u32
-    requires { ⌜ Reduced x × Reduced y ⌝ }
-    ensures { λ r. ⌜ r ≡ (coefficient x y 1 + factor * (coefficient x y 5 % p)) % p ⌝ }
+// The lines that give X^1.
+pub fn lines_1(x: Element, y: Element, back: Element) -> Sums
+    requires { ⌜ Reduced x × Reduced y × Reduced back ⌝ }
+    ensures { λ r. ⌜ Gathered x y back 1 r ⌝ }
 {
-    with_high(coefficient_1(x, y), coefficient_5(x, y))
+    Sums::none()
+        .line(x.term_0(), y.term_1(), ONE, X1)
+        .line(x.term_1(), y.term_0(), ONE, X1)
+        .line(x.term_2(), back.term_3(), FACTOR, X1)
+        .line(x.term_3(), back.term_2(), FACTOR, X1)
 }
 
-pub fn coordinate_2(x: Element, y: Element) -> u32
-    requires { ⌜ Reduced x × Reduced y ⌝ }
-    ensures { λ r. ⌜ r ≡ (coefficient x y 2 + factor * (coefficient x y 6 % p)) % p ⌝ }
+// The lines that give X^2.
+pub fn lines_2(x: Element, y: Element, back: Element) -> Sums
+    requires { ⌜ Reduced x × Reduced y × Reduced back ⌝ }
+    ensures { λ r. ⌜ Gathered x y back 2 r ⌝ }
 {
-    with_high(coefficient_2(x, y), coefficient_6(x, y))
+    Sums::none()
+        .line(x.term_0(), y.term_2(), ONE, X2)
+        .line(x.term_1(), y.term_1(), ONE, X2)
+        .line(x.term_2(), y.term_0(), ONE, X2)
+        .line(x.term_3(), back.term_3(), FACTOR, X2)
 }
 
-pub fn coordinate_3(x: Element, y: Element) -> u32
-    requires { ⌜ Reduced x × Reduced y ⌝ }
-    ensures { λ r. ⌜ r ≡ coefficient x y 3 % p ⌝ }
+// The lines that give X^3.
+pub fn lines_3(x: Element, y: Element, back: Element) -> Sums
+    requires { ⌜ Reduced x × Reduced y × Reduced back ⌝ }
+    ensures { λ r. ⌜ Gathered x y back 3 r ⌝ }
 {
-    word::residue(coefficient_3(x, y))
+    Sums::none()
+        .line(x.term_0(), y.term_3(), ONE, X3)
+        .line(x.term_1(), y.term_2(), ONE, X3)
+        .line(x.term_2(), y.term_1(), ONE, X3)
+        .line(x.term_3(), y.term_0(), ONE, X3)
 }
 
-// The residue of low + factor high, where both together are at most four products: shrunk, high has room for the factor.
-fn with_high(low: u64, high: u64) -> u32
-    requires { ⌜ low + high ≤ 4 * ((p - 1) * (p - 1)) ⌝ }
-    ensures { λ r. ⌜ r ≡ (low + factor * (high % p)) % p ⌝ }
-{
-    word::residue(low + (Element::FACTOR as u64) * word::shrink(high))
+// A word and its power: word X^power.
+pub struct Term {
+    pub word: u32,
+    pub power: usize,
 }
 
-pub fn coefficient_0(x: Element, y: Element) -> u64
-    requires { ⌜ Reduced x × Reduced y ⌝ }
-    ensures { λ r. ⌜ (r ≡ coefficient x y 0) × (r ≤ (p - 1) * (p - 1)) ⌝ }
-{
-    word::wide(x.c[0], y.c[0])
+impl Element {
+    fn term_0(self) -> Term
+        ensures { λ t. ⌜ t ≡ termOf self 0 ⌝ }
+    {
+        Term {
+            word: self.c[0],
+            power: 0,
+        }
+    }
+
+    fn term_1(self) -> Term
+        ensures { λ t. ⌜ t ≡ termOf self 1 ⌝ }
+    {
+        Term {
+            word: self.c[1],
+            power: 1,
+        }
+    }
+
+    fn term_2(self) -> Term
+        ensures { λ t. ⌜ t ≡ termOf self 2 ⌝ }
+    {
+        Term {
+            word: self.c[2],
+            power: 2,
+        }
+    }
+
+    fn term_3(self) -> Term
+        ensures { λ t. ⌜ t ≡ termOf self 3 ⌝ }
+    {
+        Term {
+            word: self.c[3],
+            power: 3,
+        }
+    }
 }
 
-pub fn coefficient_1(x: Element, y: Element) -> u64
-    requires { ⌜ Reduced x × Reduced y ⌝ }
-    ensures { λ r. ⌜ (r ≡ coefficient x y 1) × (r ≤ 2 * ((p - 1) * (p - 1))) ⌝ }
-{
-    word::wide(x.c[0], y.c[1]) + word::wide(x.c[1], y.c[0])
+// Of the lines that give one power: the sum of the products with factor 1, and that of those with FACTOR.
+pub struct Sums {
+    pub once: u64,
+    pub back: u64,
 }
 
-pub fn coefficient_2(x: Element, y: Element) -> u64
-    requires { ⌜ Reduced x × Reduced y ⌝ }
-    ensures { λ r. ⌜ (r ≡ coefficient x y 2) × (r ≤ 3 * ((p - 1) * (p - 1))) ⌝ }
-{
-    word::wide(x.c[0], y.c[2]) + word::wide(x.c[1], y.c[1]) + word::wide(x.c[2], y.c[0])
-}
+impl Sums {
+    fn none() -> Self
+        ensures { λ r. ⌜ (r .once ≡ 0) × (r .back ≡ 0) ⌝ }
+    {
+        Sums { once: 0, back: 0 }
+    }
 
-pub fn coefficient_3(x: Element, y: Element) -> u64
-    requires { ⌜ Reduced x × Reduced y ⌝ }
-    ensures { λ r. ⌜ (r ≡ coefficient x y 3) × (r ≤ 4 * ((p - 1) * (p - 1))) ⌝ }
-{
-    word::wide(x.c[0], y.c[3])
-        + word::wide(x.c[1], y.c[2])
-        + word::wide(x.c[2], y.c[1])
-        + word::wide(x.c[3], y.c[0])
-}
+    // The line X^i X^j = factor X^power, of the terms a X^i and b X^j.
+    fn line(self, a: Term, b: Term, factor: u32, power: usize) -> Self
+        requires { ⌜ ProductOfPowers (a .power) (b .power) factor power ⌝ }
+        requires { ⌜ (a .word < p) × (b .word < p) × (self .once + self .back ≤ 3 * ((p - 1) * (p - 1))) ⌝ }
+        ensures { λ r. ⌜ r ≡ lined (a .word * b .word) factor self ⌝ }
+        ensures { λ r. ⌜ r .once + r .back ≤ self .once + self .back + (p - 1) * (p - 1) ⌝ }
+    {
+        let product = word::wide(a.word, b.word);
+        if factor == ONE {
+            Sums {
+                once: self.once + product,
+                back: self.back,
+            }
+        } else {
+            Sums {
+                once: self.once,
+                back: self.back + product,
+            }
+        }
+    }
 
-pub fn coefficient_4(x: Element, y: Element) -> u64
-    requires { ⌜ Reduced x × Reduced y ⌝ }
-    ensures { λ r. ⌜ (r ≡ coefficient x y 4) × (r ≤ 3 * ((p - 1) * (p - 1))) ⌝ }
-{
-    word::wide(x.c[1], y.c[3]) + word::wide(x.c[2], y.c[2]) + word::wide(x.c[3], y.c[1])
-}
-
-pub fn coefficient_5(x: Element, y: Element) -> u64
-    requires { ⌜ Reduced x × Reduced y ⌝ }
-    ensures { λ r. ⌜ (r ≡ coefficient x y 5) × (r ≤ 2 * ((p - 1) * (p - 1))) ⌝ }
-{
-    word::wide(x.c[2], y.c[3]) + word::wide(x.c[3], y.c[2])
-}
-
-pub fn coefficient_6(x: Element, y: Element) -> u64
-    requires { ⌜ Reduced x × Reduced y ⌝ }
-    ensures { λ r. ⌜ (r ≡ coefficient x y 6) × (r ≤ (p - 1) * (p - 1)) ⌝ }
-{
-    word::wide(x.c[3], y.c[3])
+    // The coordinate: the residue of once + FACTOR back. `back`, shrunk, has room for the factor.
+    pub fn coordinate(self) -> u32
+        requires { ⌜ self .once + self .back ≤ 4 * ((p - 1) * (p - 1)) ⌝ }
+        ensures { λ r. ⌜ r ≡ (self .once + factor * (self .back % p)) % p ⌝ }
+    {
+        word::residue(self.once + (FACTOR as u64) * word::shrink(self.back))
+    }
 }

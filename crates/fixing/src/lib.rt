@@ -223,7 +223,7 @@ fn halve_prefix(entries: &mut [u32], h: usize, r: Element)
     for i in 0..h {
         let a0 = table::get(entries, i);
         let a1 = table::get(entries, h + i);
-        table::put(entries, i, line(a0, a1, m));
+        table::put(entries, i, line_prefix(a0, a1, m));
     }
 }
 
@@ -235,7 +235,7 @@ fn halve_suffix(entries: &mut [u32], h: usize, r: Element)
     for i in 0..h {
         let a0 = table::get(entries, 2 * i);
         let a1 = table::get(entries, 2 * i + 1);
-        table::put(entries, i, line(a0, a1, m));
+        table::put(entries, i, line_suffix(a0, a1, m));
     }
 }
 
@@ -251,12 +251,36 @@ fn halve_monomial(entries: &mut [u32], h: usize, r: Element)
     }
 }
 
-// a0 + (a1 - a0) r.
-fn line(a0: Element, a1: Element, m: Multiplier) -> Element
+// a0 + (a1 - a0) r. Each loop has its own such function, which the compiler copies into it: with two callers it stays a call, and the loop
+// makes no vectors.
+fn line_prefix(a0: Element, a1: Element, m: Multiplier) -> Element
     requires { ⌜ (Reduced a0 × Reduced a1) × Ready m ⌝ }
     ensures { λ x. ⌜ Holds x (combined Prefix (fromWords a0) (fromWords a1) (fromWords (m .r))) ⌝ }
 {
-    m.plus(a0, a1.sub(a0))
+    let d = a1.sub(a0);
+    a0.add(Element {
+        c: [
+            m.coordinate_0(d),
+            m.coordinate_1(d),
+            m.coordinate_2(d),
+            m.coordinate_3(d),
+        ],
+    })
+}
+
+fn line_suffix(a0: Element, a1: Element, m: Multiplier) -> Element
+    requires { ⌜ (Reduced a0 × Reduced a1) × Ready m ⌝ }
+    ensures { λ x. ⌜ Holds x (combined Suffix (fromWords a0) (fromWords a1) (fromWords (m .r))) ⌝ }
+{
+    let d = a1.sub(a0);
+    a0.add(Element {
+        c: [
+            m.coordinate_0(d),
+            m.coordinate_1(d),
+            m.coordinate_2(d),
+            m.coordinate_3(d),
+        ],
+    })
 }
 
 // a0 + a1 r.
@@ -264,5 +288,12 @@ fn monomial(a0: Element, a1: Element, m: Multiplier) -> Element
     requires { ⌜ (Reduced a0 × Reduced a1) × Ready m ⌝ }
     ensures { λ x. ⌜ Holds x (combined Monomial (fromWords a0) (fromWords a1) (fromWords (m .r))) ⌝ }
 {
-    m.plus(a0, a1)
+    a0.add(Element {
+        c: [
+            m.coordinate_0(a1),
+            m.coordinate_1(a1),
+            m.coordinate_2(a1),
+            m.coordinate_3(a1),
+        ],
+    })
 }

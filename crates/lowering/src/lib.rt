@@ -5,7 +5,7 @@ use field::word;
 ghost use mathlib.Core.Path.{_≡_};
 ghost use Prim.Native.Nat.{_+_, _-_, _*_, _<_, _≤_, _%_};
 ghost use Rattle.algebra.specs.Ring.{Ops};
-ghost use Rattle.field.specs.Field.{p, field, base, fromWords, Reduced, Holds};
+ghost use Rattle.field.specs.Field.{p, factor, field, base, fromWords, Reduced, Holds};
 ghost use Rattle.field.specs.Inner.{unit};
 ghost use Rattle.lowering.specs.Lowering.{unitInverse};
 
@@ -14,6 +14,9 @@ const INVERSE: u64 = 2281701377;
 
 // 2^64 modulo p.
 const SQUARE: u32 = 1172168163;
+
+// The field's factor times 2^32, modulo p.
+const RAISED_FACTOR: u32 = 939524073;
 
 // 2^31: what is below 0, wrapped, is not below it. That is a test of one bit, which vectors of words have.
 const SIGN: u32 = 2147483648;
@@ -39,6 +42,28 @@ fn raise_word(w: u32) -> u32
     ensures { λ r. ⌜ r ≡ w * unit % p ⌝ }
 {
     lower(word::wide(w, SQUARE))
+}
+
+// w times the field's factor: w times that and 2^32, divided by 2^32.
+pub fn times_factor(w: Element) -> Element
+    requires { ⌜ Reduced w ⌝ }
+    ensures { λ r. ⌜ Holds r (field .mul (fromWords w) (base factor)) ⌝ }
+{
+    Element {
+        c: [
+            word_times_factor(w.c[0]),
+            word_times_factor(w.c[1]),
+            word_times_factor(w.c[2]),
+            word_times_factor(w.c[3]),
+        ],
+    }
+}
+
+fn word_times_factor(w: u32) -> u32
+    requires { ⌜ w < p ⌝ }
+    ensures { λ r. ⌜ r ≡ w * factor % p ⌝ }
+{
+    lower(word::wide(w, RAISED_FACTOR))
 }
 
 // n / 2^32 modulo p, where n is four products or fewer. m p ends as n does, so n - m p is what stands above 2^32 in both, times 2^32.

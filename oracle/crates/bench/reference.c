@@ -15,7 +15,6 @@ typedef struct {
     uint32_t c[4];
 } element;
 
-static const element zero = {{0, 0, 0, 0}};
 static const element one = {{1, 0, 0, 0}};
 
 static inline uint32_t word_plus(uint32_t a, uint32_t b) {
@@ -85,38 +84,45 @@ static inline element product(element x, element y) {
     return out;
 }
 
-/* A factor r, made ready for many products: with t = 11 r, the matrix of x r has
-   the blocks A = r0 t3 / r1 r0 twice, B = t2 t1 / t3 t2 and C = r2 r1 / r3 r2;
-   these are A, B - A and C - A. */
+/* The inverse of P modulo 2^32, and 2^64 modulo P. */
+#define INVERSE 2281701377u
+#define SQUARE 1172168163u
+
+/* n / 2^32 modulo P, for n of up to four products. */
+static inline uint32_t lowered(uint64_t n) {
+    uint32_t high = (uint32_t)(n >> 32), multiple = (uint32_t)n * INVERSE;
+    return word_minus(high >= P ? high - P : high, (uint32_t)((uint64_t)multiple * P >> 32));
+}
+
+/* A factor r, made ready for many products: r 2^32, and that times 11. */
 typedef struct {
-    uint32_t a[3], b[3], c[3];
+    uint32_t r[4], t[4];
 } multiplier;
 
 static inline multiplier ready(element r) {
-    uint32_t t[4];
+    multiplier m;
     for (int i = 0; i < 4; i++) {
-        t[i] = (uint32_t)((uint64_t)r.c[i] * FACTOR % P);
+        m.r[i] = lowered((uint64_t)r.c[i] * SQUARE);
+        m.t[i] = lowered((uint64_t)r.c[i] * FACTOR % P * SQUARE);
     }
-    multiplier m = {
-        {r.c[0], t[3], r.c[1]},
-        {word_minus(t[2], r.c[0]), word_minus(t[1], t[3]), word_minus(t[3], r.c[1])},
-        {word_minus(r.c[2], r.c[0]), word_minus(r.c[1], t[3]), word_minus(r.c[3], r.c[1])},
-    };
     return m;
 }
 
-/* old + x r: twelve products of words and four `%`. */
-static inline element gained(multiplier m, element old, element x) {
+/* x r: the matrix of r, sixteen products of words and no `%`. */
+static inline element times(multiplier m, element x) {
     uint64_t x0 = x.c[0], x1 = x.c[1], x2 = x.c[2], x3 = x.c[3];
-    uint64_t s0 = word_plus(x.c[0], x.c[2]), s1 = word_plus(x.c[1], x.c[3]);
-    uint64_t p0 = s0 * m.a[0] + s1 * m.a[1], p1 = s0 * m.a[2] + s1 * m.a[0];
     element out = {{
-        (uint32_t)((old.c[0] + p0 + x2 * m.b[0] + x3 * m.b[1]) % P),
-        (uint32_t)((old.c[1] + p1 + x2 * m.b[2] + x3 * m.b[0]) % P),
-        (uint32_t)((old.c[2] + p0 + x0 * m.c[0] + x1 * m.c[1]) % P),
-        (uint32_t)((old.c[3] + p1 + x0 * m.c[2] + x1 * m.c[0]) % P),
+        lowered(x0 * m.r[0] + x1 * m.t[3] + x2 * m.t[2] + x3 * m.t[1]),
+        lowered(x0 * m.r[1] + x1 * m.r[0] + x2 * m.t[3] + x3 * m.t[2]),
+        lowered(x0 * m.r[2] + x1 * m.r[1] + x2 * m.r[0] + x3 * m.t[3]),
+        lowered(x0 * m.r[3] + x1 * m.r[2] + x2 * m.r[1] + x3 * m.r[0]),
     }};
     return out;
+}
+
+/* old + x r. */
+static inline element gained(multiplier m, element old, element x) {
+    return plus(old, times(m, x));
 }
 
 /* out = x * y^times, one product after the other. */
@@ -149,7 +155,7 @@ static void fill(element *out, const element *point, int k, element scale) {
         size_t n = (size_t)1 << j;
         multiplier c = ready(point[k - 1 - j]);
         for (size_t i = 0; i < n; i++) {
-            element high = gained(c, zero, out[i]);
+            element high = times(c, out[i]);
             out[n + i] = high;
             out[i] = minus(out[i], high);
         }

@@ -10,6 +10,7 @@ use Rattle.field.proofs.Laws.{field-ring, read-as}
 use Rattle.table.specs.Table.{elementAt}
 use Rattle.table.specs.Gained.{Gained}
 use Rattle.table.proofs.Gaining.{none, turn}
+use Rattle.table.proofs.Tests.{reduced-at}
 use Rattle.work.proofs.gain_table.Statement.{statement}
 use Rattle.work.proofs.gain_table.Tie as tie
 
@@ -44,7 +45,11 @@ get-requires c κs =
 plus-requires : tie.Need-plus-requires Inv-loop μ-loop
 plus-requires c κs =
     let read = c .before .before in
-    (new (read .before) .new .ensures .1, read .read .ensures .below)
+    let test = read .before in (
+      new test .new .ensures .1,
+      read .read .ensures .below,
+      rw (c .get .ensures) (reduced-at _ (test .before .loop .inv .1 .below (begin test .pre .0 .out-below)) _),
+    )
 
 -- the place is written as it was read
 add-put : tie.Need-add-put Inv-loop μ-loop

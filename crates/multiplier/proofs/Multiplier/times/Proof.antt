@@ -1,12 +1,13 @@
--- `multiplier::Multiplier::times` meets its contract: 0 and the product. Assumes nothing.
+-- `multiplier::Multiplier::times` meets its contract: its words are the four coordinates. Assumes nothing.
 use borrow.Author.Needs.{needs}
-use Rattle.algebra.proofs.Ring.{zero-add}
-use Rattle.field.proofs.Laws.{field-ring, read-as}
+use Rattle.field.proofs.Laws.{four-words}
 use Rattle.multiplier.proofs.Multiplier.times.Statement.{statement}
 use Rattle.multiplier.proofs.Multiplier.times.Tie as tie
 
 returns : tie.Need-returns
-returns c = rw (read-as _ (c .before .zero .ensures), zero-add field-ring _) at (c .plus .ensures)
+returns c =
+    four-words _ (c .before .before .before .coordinate-0 .ensures) (c .before .before .coordinate-1 .ensures) (c .before .coordinate-2 .ensures)
+    (c .coordinate-3 .ensures)
 
 pub times-spec : {M : Type 1} → statement M
-times-spec = tie.close (tie.spec (search needs) (λ c κs. search needs) returns)
+times-spec = tie.close (tie.spec (λ c κs. search needs) (λ c κs. search needs) (λ c κs. search needs) (λ c κs. search needs) returns)
