@@ -86,6 +86,7 @@ pub struct Term {
     pub power: usize,
 }
 
+// The terms of an element: c0, c1 X, c2 X^2 and c3 X^3.
 impl Element {
     fn term_0(self) -> Term
         ensures { λ t. ⌜ t ≡ termOf self 0 ⌝ }
