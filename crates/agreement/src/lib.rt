@@ -1,1 +1,2 @@
 // No code: what a fold session leaves, held beside the one-call folds and the next table.
+#![tactic(auto)]

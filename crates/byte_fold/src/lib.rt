@@ -3,6 +3,8 @@
 //
 //     places   | section | section | ..      each section is a fold of its own, of the words of its places
 //     words    | block | block | ..
+#![tactic(auto)]
+
 ghost use Rattle.std.specs.Prelude.{◌≡◌, ◌+◌, ◌-◌, ◌*◌, ◌≤◌, length, replicate};
 ghost use Rattle.octets.specs.Octets.{words, octets};
 ghost use Rattle.plan.specs.Plan.{places, capacity, fold_of};
@@ -19,7 +21,7 @@ const HELD: usize = 10;
 const BLOCK: usize = 4096;
 
 // The places from `from` on of a table of `inner` places, as many as the plan has.
-#[derive(Drop)]
+#[derive(Clone, Copy)]
 struct Section {
     plan: Plan,
     inner: usize,

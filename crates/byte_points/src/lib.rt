@@ -1,4 +1,6 @@
 // The calls on points in bytes: at most 20 coordinates are decoded into an array of the function's own, and the word call does the rest.
+#![tactic(auto)]
+
 ghost use Rattle.std.specs.Prelude.{◌≡◌, ◌++◌, ◌/◌, length, take};
 ghost use Rattle.octets.specs.Octets.{words, octets};
 ghost use Rattle.table.specs.Refusals.{answer, value_words, outcome, verdict};

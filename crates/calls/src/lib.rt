@@ -1,5 +1,7 @@
 // The operations by their numbers in the list that is replayed. Words of another count than a scale, r or the answer has give 4: the
 // number of lengths, and nothing is touched.
+#![tactic(auto)]
+
 use field::{Element, Value};
 use fixing::Remaining;
 use next::Next;

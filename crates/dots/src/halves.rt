@@ -5,7 +5,7 @@ ghost use Rattle.dots.specs.Inner.{value, Within, Grown, most_gains};
 
 use field::{Element, word};
 
-#[derive(Drop)]
+#[derive(Clone, Copy)]
 pub struct Halves {
     pub lo: u64,
     pub hi: u64,

@@ -1,4 +1,6 @@
 // Sums of products, with few divisions.
+#![tactic(auto)]
+
 mod halves;
 mod powers;
 mod sums;

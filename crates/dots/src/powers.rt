@@ -7,7 +7,7 @@ ghost use Rattle.dots.specs.Inner.{value, Within, most_gains, Each, RoomEach, Ra
 use crate::halves::Halves;
 use field::{Element, product, word};
 
-#[derive(Drop)]
+#[derive(Clone, Copy)]
 pub struct Powers {
     pub s0: Halves,
     pub s1: Halves,

@@ -7,7 +7,7 @@ ghost use Rattle.dots.specs.Inner.{Part, Summed, Room, Gains, settled};
 use crate::halves::Halves;
 use field::{Element, word};
 
-#[derive(Drop)]
+#[derive(Clone, Copy)]
 pub struct Sums {
     pub s0: Halves,
     pub s1: Halves,

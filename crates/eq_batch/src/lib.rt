@@ -4,6 +4,8 @@
 //
 // A point's table is made in blocks of at most 2^8 rows, in an array (4 KiB), and added to out block by block:
 // 2^n products a point, and at most 13 more a block.
+#![tactic(auto)]
+
 ghost use Rattle.std.specs.Prelude.{◌≡◌, true, false, not, ◌&&◌, ◌+◌, ◌*◌, ◌^◌, ◌≤◌, eqb, replicate};
 ghost use Rattle.field.specs.Field.{Reduced};
 ghost use Rattle.table.specs.Table.{element_at};

@@ -3,6 +3,8 @@
 //     c = [c0, c1, c2, c3]   is   c0 + c1 X + c2 X^2 + c3 X^3
 //
 // Words are below p. The operations ask that of their operands and keep it; `unreduced` is the test.
+#![tactic(auto)]
+
 pub mod product;
 pub mod word;
 
@@ -12,13 +14,13 @@ ghost use Rattle.algebra.specs.Words.{unreduced};
 ghost use Rattle.field.specs.Field.{p, Reduced, field, base, from_words, value_of, Holds};
 
 // Words below the modulus, the coordinate of 1 first.
-#[derive(Drop)]
+#[derive(Clone, Copy)]
 pub struct Element {
     pub c: [u32; 4],
 }
 
 // An element as an answer holds it: an enum holds no array.
-#[derive(Drop)]
+#[derive(Clone, Copy)]
 pub struct Value {
     pub c0: u32,
     pub c1: u32,

@@ -80,7 +80,7 @@ pub fn lines_3(x: Element, y: Element, back: Element) -> Sums
 }
 
 // A word and its power: word X^power.
-#[derive(Drop)]
+#[derive(Clone, Copy)]
 pub struct Term {
     pub word: u32,
     pub power: usize,
@@ -126,7 +126,7 @@ impl Element {
 }
 
 // Of the lines that give one power: the sum of the products with factor 1, and that of those with FACTOR.
-#[derive(Drop)]
+#[derive(Clone, Copy)]
 pub struct Sums {
     pub once: u64,
     pub back: u64,

@@ -4,6 +4,8 @@
 //     suffix    [ a0 a1 | a0 a1 .. ]   ->  the same, over neighbours
 //
 // The second half keeps its words.
+#![tactic(auto)]
+
 ghost use Rattle.std.specs.Prelude.{◌≡◌, ◌||◌, cond, ◌+◌, ◌*◌, ◌≤◌, length};
 ghost use Rattle.algebra.specs.Ring.{Ops, minus};
 ghost use Rattle.algebra.specs.Words.{unreduced};
@@ -22,7 +24,7 @@ use table::{Refusal, Verdict};
 const PART: usize = 128;
 
 // Which two entries become one, and how.
-#[derive(Drop)]
+#[derive(Clone, Copy)]
 pub enum Rule {
     Prefix,
     Suffix,
@@ -31,7 +33,7 @@ pub enum Rule {
 }
 
 // The count of entries that remain, at the front.
-#[derive(Drop)]
+#[derive(Clone, Copy)]
 pub enum Remaining {
     Entries(usize),
     Refused(Refusal),

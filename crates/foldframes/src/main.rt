@@ -2,6 +2,8 @@
 //
 // What is printed `program` decides: here the input is read, handed over block by block, and the text of each block written. A read
 // or a write that fails ends the program, with a line on standard error and nothing more on standard output.
+#![tactic(auto)]
+
 ghost use Rattle.std.specs.Prelude.{◌≡◌, false, length, replicate};
 ghost use Rattle.frame.specs.Frame.{most_line};
 ghost use Rattle.program.specs.Blocks.{most_text, Going};
@@ -11,7 +13,7 @@ use libc::{STDIN_FILENO, STDOUT_FILENO};
 use program::Program;
 
 // The program's state, and whether it goes on.
-#[derive(Drop)]
+#[derive(Clone, Copy)]
 struct Progress {
     going: bool,
     program: Program,

@@ -4,6 +4,8 @@
 //     02 index coordinate
 //     03 count words              count 00 to 10
 //     04
+#![tactic(auto)]
+
 ghost use Rattle.std.specs.Prelude.{◌≡◌, true, ◌∷◌, [], ◌++◌, ◌+◌, ◌-◌, ◌*◌, ◌/◌, ◌≤◌, ◌<◌, length, take, replicate};
 ghost use Rattle.std.proofs.lemmas.List.Edits.{sets};
 ghost use Rattle.frame.specs.Hex.{is_digit, digit_of, glyph, is_hex, spelled, word_at, words_at, byte_digits, word_digits};
@@ -15,7 +17,7 @@ use field::Element;
 use multilinear::{Side, Weight};
 
 // `01`, `02`, `03`, `04`, or none of them.
-#[derive(Drop)]
+#[derive(Clone, Copy)]
 pub enum Kind {
     Open,
     Coordinate,
@@ -25,7 +27,7 @@ pub enum Kind {
 }
 
 // What a line says. Fields that its kind does not have are 0, the side prefix and the weight plain.
-#[derive(Drop)]
+#[derive(Clone, Copy)]
 pub struct Frame {
     pub kind: Kind,
     pub side: Side,

@@ -4,6 +4,8 @@
 //                     02 |  04       03
 //
 // The coordinates come in `Points`, index 00 first and rising by one.
+#![tactic(auto)]
+
 ghost use Rattle.std.specs.Prelude.{◌≡◌, ◌<◌};
 ghost use Rattle.table.specs.Refusals.{answer, verdict, most};
 ghost use Rattle.frame.specs.declared.Kind.TheVariants.{Words};

@@ -10,7 +10,7 @@ use field::Element;
 // The number of a word that is not below p.
 const UNREDUCED: u32 = 5;
 
-#[derive(Drop)]
+#[derive(Clone, Copy)]
 pub enum Operation {
     Add,
     Sub,

@@ -1,5 +1,7 @@
 // Values, fixing, last scalars and split folds for a host program that compares and measures them: words in slices, and 0 or the
 // refusal's number. A scale is four numbers, as in the ward's calls; an answer that is one element is an array of four words.
+#![tactic(auto)]
+
 pub mod answers;
 pub mod fixed;
 

@@ -1,4 +1,6 @@
 // Weighted words that are added to out, or that it is set to, with one division a coordinate.
+#![tactic(auto)]
+
 mod steps;
 
 ghost use Rattle.algebra.specs.Ring.{Ops};
@@ -64,7 +66,7 @@ pub fn gain_rows(
 }
 
 // The weights of four words.
-#[derive(Drop)]
+#[derive(Clone, Copy)]
 pub struct Weights {
     pub w0: Element,
     pub w1: Element,

@@ -9,7 +9,7 @@ ghost use Rattle.kernel.specs.Inner.{Small, column, plus_products};
 use field::{Element, word};
 
 // A word of each of four rows, or a coordinate of each row's weight.
-#[derive(Drop)]
+#[derive(Clone, Copy)]
 pub struct Four {
     pub x0: u32,
     pub x1: u32,

@@ -1,9 +1,11 @@
 // The session's record; its specs say what open, feed, close and read answer and leave, what a ledger holds, and demand 3. The functions
 // are in `session`.
+#![tactic(auto)]
+
 use plan::Plan;
 
 // A plan, and how far its table is taken.
-#[derive(Drop)]
+#[derive(Clone, Copy)]
 pub struct Session {
     pub plan: Plan,
     pub taken: usize,

@@ -1,4 +1,6 @@
 // The session lent: the same calls, which leave the session where it stands.
+#![tactic(auto)]
+
 ghost use Rattle.std.specs.Prelude.{◌≡◌};
 ghost use Rattle.table.specs.Refusals.{answer};
 ghost use Rattle.ledger.specs.Session.{state, feed_step, close_step};

@@ -1,5 +1,7 @@
 // Division by 2^32 modulo p, which takes no division of the machine's: by products, and by what stands above 2^32 (Montgomery's
 // reduction). A loop whose weights were multiplied by 2^32 before it divides each sum so, and the compiler makes vectors of that.
+#![tactic(auto)]
+
 ghost use Rattle.std.specs.Prelude.{◌≡◌, ◌+◌, ◌-◌, ◌*◌, ◌%◌, ◌<◌, ◌≤◌};
 ghost use Rattle.algebra.specs.Ring.{Ops};
 ghost use Rattle.field.specs.Field.{p, factor, field, base, from_words, Reduced, Holds};

@@ -4,6 +4,8 @@
 //
 // No weight is made twice: on the prefix side the weights of a range of rows come from their common part, coordinate by coordinate, and
 // on the suffix side a place's words are summed by halves, so that a row costs one product or less, and a piece some k more.
+#![tactic(auto)]
+
 mod places;
 mod rows;
 
@@ -20,7 +22,7 @@ use kernel::Weights;
 use multilinear::{Side, Weight};
 
 // What the terms of a place's sum are made of: 2^k rows of `inner` words, and the rows' weights.
-#[derive(Drop)]
+#[derive(Clone, Copy)]
 pub struct Terms {
     pub k: usize,
     pub inner: usize,

@@ -12,7 +12,7 @@ use crate::Terms;
 const SHORT: usize = 64;
 
 // The terms, how many coordinates a block's table is for, and how many words the table has before the piece.
-#[derive(Drop)]
+#[derive(Clone, Copy)]
 pub struct Shape {
     pub terms: Terms,
     pub low: usize,
@@ -20,14 +20,14 @@ pub struct Shape {
 }
 
 // The places from `from` to before `to`.
-#[derive(Drop)]
+#[derive(Clone, Copy)]
 pub struct Range {
     pub from: usize,
     pub to: usize,
 }
 
 // The words of a piece from a to before b, and how many rows come before them.
-#[derive(Drop)]
+#[derive(Clone, Copy)]
 pub struct Span {
     pub a: usize,
     pub b: usize,

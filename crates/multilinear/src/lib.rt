@@ -1,8 +1,9 @@
 // Definitions and laws over the operations of any ring: equality, successors, values and folds, and the products beside them. The code
 // has the two choices of a fold alone.
+#![tactic(auto)]
 
 // Which variables of a table a fold sums over.
-#[derive(Drop)]
+#[derive(Clone, Copy)]
 pub enum Side {
     // The first: a row is consecutive words.
     Prefix,
@@ -11,7 +12,7 @@ pub enum Side {
 }
 
 // The weight of a row.
-#[derive(Drop)]
+#[derive(Clone, Copy)]
 pub enum Weight {
     // eq of the row.
     Plain,

@@ -8,6 +8,8 @@
 //
 // A row's four products fit a u64. A `Multiplier` has r and t times 2^32, and each row's sum is divided by 2^32 (`lowering`), of which the
 // compiler makes vectors; `plus_by` takes r and t as they are, and divides by p.
+#![tactic(auto)]
+
 ghost use Rattle.std.specs.Prelude.{◌≡◌, ◌+◌, ◌-◌, ◌*◌, ◌≤◌, ◌%◌};
 ghost use Rattle.algebra.specs.Ring.{Ops};
 ghost use Rattle.field.specs.Field.{p, factor, Reduced, field, base, from_words, Holds};
@@ -18,7 +20,7 @@ use field::product::Sums;
 use field::{Element, product, word};
 
 // The factor r, made ready.
-#[derive(Drop)]
+#[derive(Clone, Copy)]
 pub struct Multiplier {
     pub r: Element,
     // r 2^32.

@@ -1,4 +1,6 @@
 // Two points: eq of the first extended to the second, and the first's successor tables at the second.
+#![tactic(auto)]
+
 ghost use Rattle.std.specs.Prelude.{◌≡◌};
 ghost use Rattle.algebra.specs.Ring.{Ops, minus};
 ghost use Rattle.multilinear.specs.Equality.{agreement};
@@ -14,7 +16,7 @@ ghost use Rattle.next.specs.Inner.{Paired};
 use field::{Element, Value};
 use table::{Evaluation, Refusal, Verdict};
 
-#[derive(Drop)]
+#[derive(Clone, Copy)]
 pub enum Next {
     Parts {
         carry: Value,

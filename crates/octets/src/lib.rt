@@ -2,6 +2,8 @@
 //
 //     bytes   b0 b1 b2 b3 | b4 b5 b6 b7 | ..
 //     word         0      |      1      | ..
+#![tactic(auto)]
+
 ghost use Rattle.std.specs.Prelude.{◌≡◌, ◌+◌, ◌*◌, ◌≤◌, ◌<◌, length, take, drop};
 ghost use Rattle.std.proofs.lemmas.List.Edits.{sets};
 ghost use Rattle.octets.specs.Octets.{word_at, words, octets};

@@ -4,6 +4,8 @@
 //     rows      w w w w        with 7 words of rows of 4: places 0 to 2 lack the rows from 2 on,
 //               w w w .        place 3 those from 1 on
 //               . . . .
+#![tactic(auto)]
+
 ghost use Rattle.std.specs.Prelude.{◌≡◌, ◌+◌, ◌-◌, ◌%◌, ◌^◌, ◌≤◌, ◌<◌, length, get_or};
 ghost use Rattle.algebra.specs.Ring.{Ops};
 ghost use Rattle.algebra.specs.Words.{unreduced};

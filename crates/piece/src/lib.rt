@@ -2,6 +2,8 @@
 //
 //     a place gains   scale eq[y - skip] word of row y, over the rows y from `skip` on      `moved`
 //              and    the own row's weight times its word, where the weight has one         `own`
+#![tactic(auto)]
+
 mod groups;
 mod own;
 mod sections;

@@ -8,7 +8,7 @@ use moved::Terms;
 use multilinear::{Side, Weight};
 
 // Where the words of a row stand in the table: that of place 0, and how far apart they are.
-#[derive(Drop)]
+#[derive(Clone, Copy)]
 pub struct Stand {
     pub row: usize,
     pub start: usize,

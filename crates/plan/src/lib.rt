@@ -1,6 +1,8 @@
 // What a fold is about: its table's variables and its point's coordinates, its side, its weight and its scale.
 //
 //     rows 2^k, places 2^(n - k)      a table of 2^n words: one for each place of each row
+#![tactic(auto)]
+
 ghost use Rattle.std.specs.Prelude.{◌≡◌, ◌*◌, ◌≤◌, length, replicate};
 ghost use Rattle.table.specs.Refusals.{most};
 ghost use Rattle.plan.specs.Plan.{padded, plan_of};
@@ -11,7 +13,7 @@ use multilinear::{Side, Weight};
 // The words of the most coordinates.
 pub const WORDS: usize = 4 * table::MOST;
 
-#[derive(Drop)]
+#[derive(Clone, Copy)]
 pub struct Plan {
     pub n: usize,
     pub k: usize,

@@ -18,7 +18,7 @@ use multiplier::Multiplier;
 use table::{Evaluation, Refusal, Verdict};
 
 // Which end of a point goes with the highest bit of a row number.
-#[derive(Drop)]
+#[derive(Clone, Copy)]
 pub enum BitOrder {
     // Coordinate 0 goes with the highest bit.
     Msb,

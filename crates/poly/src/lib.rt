@@ -1,4 +1,6 @@
 // Tables: made from a point, and their values at a point.
+#![tactic(auto)]
+
 pub mod value;
 
 ghost use Rattle.std.specs.Prelude.{◌≡◌, ◌*◌, ◌≤◌, length};

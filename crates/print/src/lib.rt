@@ -1,4 +1,6 @@
 // What the programs write: texts, words, elements and refusals.
+#![tactic(auto)]
+
 use field::{Element, Value};
 use libc::STDOUT_FILENO;
 use table::{Evaluation, Refusal, Verdict};

@@ -1,6 +1,8 @@
 // The program `foldframes` but for its reads and its writes: it is fed the input in blocks, cut anywhere, and gives text to print.
 //
 //     block --> | bytes of a line that has not ended | lines that end --> one step each --> text
+#![tactic(auto)]
+
 ghost use Rattle.std.specs.Prelude.{◌≡◌, false, ◌+◌, ◌≤◌, length, take};
 ghost use Rattle.runs.specs.Reader.{Ready};
 ghost use Rattle.program.specs.Printed.{end_line};
@@ -16,7 +18,7 @@ pub mod text;
 pub const MOST_TEXT: usize = 33797;
 
 // What the lines so far left, how many bytes are held of the line that has not ended, and whether a line was refused.
-#[derive(Drop)]
+#[derive(Clone, Copy)]
 pub struct Program {
     pub reader: Reader,
     pub used: usize,
@@ -24,7 +26,7 @@ pub struct Program {
 }
 
 // The state after a block, and how many bytes of text there are to print.
-#[derive(Drop)]
+#[derive(Clone, Copy)]
 pub struct Fed {
     pub program: Program,
     pub count: usize,

@@ -4,6 +4,8 @@
 //
 // and before the call out holds 7 in each of its words. From operation 14 on b is two slices and out is work and then out: the number is
 // the words of the first of them and, times 65536, those of work. From 23 on work is the table that a call changes, and b is it before.
+#![tactic(auto)]
+
 ghost use Rattle.std.specs.Prelude.{◌≡◌, ◌+◌, ◌<◌, ◌≤◌, length};
 
 use libc::STDIN_FILENO;

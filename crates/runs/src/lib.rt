@@ -1,8 +1,10 @@
 // The reader's types; its specs say what a line answers and leaves, and what holds after every list of lines. The functions are in `frames`.
+#![tactic(auto)]
+
 use ledger::Session;
 use table::Verdict;
 
-#[derive(Drop)]
+#[derive(Clone, Copy)]
 pub enum Phase {
     Start,
     Points,
@@ -11,7 +13,7 @@ pub enum Phase {
 }
 
 // What may come in a phase: an `01`; a `02`; a `03` or `04`.
-#[derive(Drop)]
+#[derive(Clone, Copy)]
 pub struct Place {
     pub opening: bool,
     pub coordinates: bool,
@@ -19,7 +21,7 @@ pub struct Place {
 }
 
 // The session as the frames give it, and how many coordinates have come.
-#[derive(Drop)]
+#[derive(Clone, Copy)]
 pub struct Reader {
     pub phase: Phase,
     pub session: Session,
@@ -27,7 +29,7 @@ pub struct Reader {
 }
 
 // An answer with the state beside it.
-#[derive(Drop)]
+#[derive(Clone, Copy)]
 pub struct Turn {
     pub answer: Verdict,
     pub reader: Reader,

@@ -1,4 +1,6 @@
 // Words in rows, scattered over their places: each place gains its words, each by the weight of its row.
+#![tactic(auto)]
+
 ghost use Rattle.std.specs.Prelude.{◌≡◌, false, replicate};
 ghost use Rattle.algebra.specs.Sum.{sum_to};
 ghost use Rattle.algebra.specs.Words.{unreduced};

@@ -1,4 +1,6 @@
 // The fold session: a table arrives in pieces, and each is folded as it comes.
+#![tactic(auto)]
+
 ghost use Rattle.std.specs.Prelude.{◌≡◌, ◌&&◌, ltb, drop};
 ghost use Rattle.table.specs.Refusals.{answer, outcome, verdict};
 ghost use Rattle.table.specs.Inner.{onward};
@@ -13,7 +15,7 @@ use multilinear::{Side, Weight};
 use table::{Evaluation, Refusal, Verdict};
 
 // An answer with the session beside it.
-#[derive(Drop)]
+#[derive(Clone, Copy)]
 pub struct Settled {
     pub answer: Verdict,
     pub session: Session,

@@ -104,7 +104,7 @@ pub fn compress_suffix_shifted(
 }
 
 // What the four folds differ in.
-#[derive(Drop)]
+#[derive(Clone, Copy)]
 struct Kind {
     side: Side,
     weight: Weight,

@@ -1,4 +1,6 @@
 // The tests of the split folds, the values with a scale and the weights, each list in its order; the first that holds is given.
+#![tactic(auto)]
+
 ghost use Rattle.std.specs.Prelude.{◌≡◌};
 ghost use Rattle.table.specs.Refusals.{answer, verdict};
 ghost use Rattle.table.specs.Inner.{onward};

@@ -2,6 +2,8 @@
 //
 //     words   w0 w1 w2 w3 | w4 w5 w6 w7 | ..
 //     element      0      |      1      | ..
+#![tactic(auto)]
+
 ghost use Rattle.std.specs.Prelude.{◌≡◌, false, not, ◌+◌, ◌-◌, ◌*◌, ◌^◌, ◌≤◌, ◌<◌, min, eqb, length, replicate};
 ghost use Rattle.algebra.specs.Words.{unreduced};
 ghost use Rattle.field.specs.Field.{p, Holds};
@@ -14,7 +16,7 @@ use field::{Element, Value};
 // The most variables of a table, and coordinates of a point.
 pub const MOST: usize = 20;
 
-#[derive(Drop)]
+#[derive(Clone, Copy)]
 pub enum Refusal {
     Split,
     NotPower,
@@ -33,14 +35,14 @@ pub enum Refusal {
 }
 
 // The answer of a call that fills what it was lent.
-#[derive(Drop)]
+#[derive(Clone, Copy)]
 pub enum Verdict {
     Accepted,
     Refused(Refusal),
 }
 
 // The answer of a call that gives one element.
-#[derive(Drop)]
+#[derive(Clone, Copy)]
 pub enum Evaluation {
     Value(Value),
     Refused(Refusal),

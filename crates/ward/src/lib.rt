@@ -1,5 +1,7 @@
 // The calls of the ward app: bytes in, bytes out, and 0 or the refusal's number. A word is four bytes, the lowest first, and an element
 // four words. Nothing is allocated, and a table is never copied whole.
+#![tactic(auto)]
+
 mod shifted;
 
 ghost use Rattle.std.specs.Prelude.{◌≡◌};

@@ -6,6 +6,8 @@
 //
 // What is left at the last 8 variables, or fewer, is summed against their table of eq, which is made once. The value of a table of 8
 // variables or fewer is made by halves alone.
+#![tactic(auto)]
+
 mod small;
 
 ghost use Rattle.std.specs.Prelude.{◌≡◌, ◌+◌, ◌*◌, ◌^◌, ◌%◌, ◌≤◌, ltb, replicate};

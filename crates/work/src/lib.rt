@@ -2,6 +2,8 @@
 //
 //     work     eq0: scale eq of the first half of the coordinates | eq1: eq of the others
 //     row y    has the weight eq0[y / n1] eq1[y % n1], n1 being the entries of eq1
+#![tactic(auto)]
+
 ghost use Rattle.std.specs.Prelude.{◌≡◌, ◌+◌, ◌^◌, ◌<◌};
 ghost use Rattle.algebra.specs.Ring.{Ops};
 ghost use Rattle.field.specs.Field.{field, from_words, Reduced, Holds};

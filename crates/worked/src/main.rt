@@ -1,5 +1,7 @@
 // Document 01's worked examples on elements, points and fixing, run through the code: a line for each, its name and the words
 // that the code gives.
+#![tactic(auto)]
+
 mod elements;
 mod fixed;
 mod points;

@@ -1,4 +1,6 @@
 // Document 01's worked examples on values and folds: f = 1, 4, 9, 16; z = (2, 3); and the corners, with scale 5.
+#![tactic(auto)]
+
 use field::Element;
 
 fn f() -> [u32; 4] {

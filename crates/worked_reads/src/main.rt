@@ -1,5 +1,7 @@
 // Sums shown while rows arrive: reads of document 01's listing, f = 1, 4, 9, 16 at the point (2), prefix side, next weight, before, between
 // and after its feeds, refused ones among them; of a session whose open was refused; and of a table whose rows come one by one.
+#![tactic(auto)]
+
 use field::Element;
 use ledger::Session;
 use multilinear::{Side, Weight};

@@ -1,12 +1,14 @@
 // Document 01's listing as a session: f = 1, 4, 9, 16 in pieces at the point (2), prefix side, next weight, with refused calls among the
 // feeds. Each call is made by value, and again on a session that is lent. A line for each has both answers.
+#![tactic(auto)]
+
 use field::Element;
 use ledger::Session;
 use multilinear::{Side, Weight};
 use session::Settled;
 
 // The session by value, and the one that is lent.
-#[derive(Drop)]
+#[derive(Clone, Copy)]
 struct Both {
     plain: Session,
     lent: Session,
