@@ -3,8 +3,8 @@ use Rattle.std.proofs.Common.{◌≡◌, refl, rules}
 use Rattle.field.proofs.or_above.Statement.{statement}
 use Rattle.field.proofs.or_above.Tie as tie
 
-returns-2 : tie.Need-returns-2
-returns-2 c = rw c.if1.false refl
+returns-2 : tie.Need-returns-else-found
+returns-2 c = rw c.if-found.false refl
 
-pub or-above-spec : {M : Type 1} → statement M
-or-above-spec = tie.close (tie.spec (λ c. search rules) returns-2)
+pub or_above_spec : {M : Type 1} → statement M
+or_above_spec = tie.close (tie.spec (λ c. search rules) returns-2)

@@ -5,11 +5,11 @@ use Rattle.lowering.proofs.less.Statement.{statement}
 use Rattle.lowering.proofs.less.Tie as tie
 
 -- without the bit nothing was wrapped
-returns : tie.Need-returns
+returns : tie.Need-returns-then-s-lt-SIGN
 returns c =
     let args = c.before.before.args in
-    let whole : c.before.wrapping-sub-u32.result + args.b ≡ args.a = omega arith in
+    let whole : c.before.wrapping_sub_u32-s.result + args.b ≡ args.a = omega arith in
     (omega arith, ap (λ n. n % p) whole)
 
-pub less-spec : {M : Type 1} → statement M
-less-spec = tie.close (tie.spec (search rules) (search rules) returns (search rules))
+pub less_spec : {M : Type 1} → statement M
+less_spec = tie.close (tie.spec (search rules) (search rules) returns (search rules))

@@ -23,8 +23,8 @@ less-requires-2 c κs =
 returns : tie.Need-returns
 returns c =
     lowered unit p p_pos unit_inverse refl _ _
-    c.less2.ensures.0
-    (lowers unit p p_pos inverse refl _ _ (c.less2.ensures.1 ∙ sym (add-mod_right _ p) ∙ c.before.less.ensures.1))
+    c.less-2.ensures.0
+    (lowers unit p p_pos inverse refl _ _ (c.less-2.ensures.1 ∙ sym (add-mod_right _ p) ∙ c.before.less.ensures.1))
 
 pub lower_spec : {M : Type 1} → statement M
 lower_spec =

@@ -10,10 +10,10 @@ returns c =
     let second = third.before.before in
     let first = second.before.before in
     holds _
-    (rw (c.raise-word4.ensures, third.raise-word3.ensures, second.raise-word2.ensures, first.raise-word.ensures) (scale_law _ _))
+    (rw (c.raise_word-4.ensures, third.raise_word-3.ensures, second.raise_word-2.ensures, first.raise_word.ensures) (scale_law _ _))
 
-pub raise-spec : {M : Type 1} → statement M
-raise-spec =
+pub raise_spec : {M : Type 1} → statement M
+raise_spec =
     tie.close
     (tie.spec
     (search rules)

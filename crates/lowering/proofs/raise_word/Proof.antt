@@ -12,5 +12,5 @@ lower-requires c κs = omega (arith, c.wide.ensures.1)
 returns : tie.Need-returns
 returns c = c.lower.ensures ∙ ap (λ n. n * unit_inverse % p) c.before.wide.ensures.0 ∙ square_lowered _
 
-pub raise-word-spec : {M : Type 1} → statement M
-raise-word-spec = tie.close (tie.spec (λ c κs. search rules) lower-requires returns)
+pub raise_word_spec : {M : Type 1} → statement M
+raise_word_spec = tie.close (tie.spec (λ c κs. search rules) lower-requires returns)

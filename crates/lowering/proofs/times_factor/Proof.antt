@@ -10,10 +10,10 @@ returns c =
     let second = third.before.before in
     let first = second.before.before in
     holds _
-    (rw (c.word-times-factor4.ensures, third.word-times-factor3.ensures, second.word-times-factor2.ensures, first.word-times-factor.ensures) (scale_law _ _))
+    (rw (c.word_times_factor-4.ensures, third.word_times_factor-3.ensures, second.word_times_factor-2.ensures, first.word_times_factor.ensures) (scale_law _ _))
 
-pub times-factor-spec : {M : Type 1} → statement M
-times-factor-spec =
+pub times_factor_spec : {M : Type 1} → statement M
+times_factor_spec =
     tie.close
     (tie.spec
     (search rules)

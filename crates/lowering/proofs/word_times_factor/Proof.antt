@@ -12,5 +12,5 @@ lower-requires c κs = omega (arith, c.wide.ensures.1)
 returns : tie.Need-returns
 returns c = c.lower.ensures ∙ ap (λ n. n * unit_inverse % p) c.before.wide.ensures.0 ∙ factor_lowered _
 
-pub word-times-factor-spec : {M : Type 1} → statement M
-word-times-factor-spec = tie.close (tie.spec (λ c κs. search rules) lower-requires returns)
+pub word_times_factor_spec : {M : Type 1} → statement M
+word_times_factor_spec = tie.close (tie.spec (λ c κs. search rules) lower-requires returns)

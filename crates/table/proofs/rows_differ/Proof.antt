@@ -13,16 +13,16 @@ use Rattle.table.specs.Table.{entries}
 use Rattle.table.proofs.rows_differ.Statement.{statement}
 use Rattle.table.proofs.rows_differ.Tie as tie
 
-returns : tie.Need-returns
+returns : tie.Need-returns-then-k-gt61
 returns c =
-    let few : 2 ^ 62 ≤ 2 ^ c.before.args.k = pow_mono c.if1.true in
+    let few : 2 ^ 62 ≤ 2 ^ c.before.args.k = pow_mono c.if-k-gt61.true in
     let d : entries c.before.args.out.now ≢ 2 ^ c.before.args.k = λ e. omega arith in
     sym (ap not (ne_eqb _ _ d))
 
-returns-2 : tie.Need-returns-2
+returns-2 : tie.Need-returns
 returns-2 c =
     ap (λ n. not (eqb (entries c.before.args.out.now) n))
     (shl_exact {a = 1} 1 c.before.args.k 64 (omega arith) (omega arith) ∙ one-mul _)
 
-pub rows-differ-spec : {M : Type 1} → statement M
-rows-differ-spec = tie.close (tie.spec returns (search rules) returns-2)
+pub rows_differ_spec : {M : Type 1} → statement M
+rows_differ_spec = tie.close (tie.spec returns (search rules) returns-2)

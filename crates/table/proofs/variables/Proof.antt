@@ -5,5 +5,5 @@ use lib.Count.{trailing_le}
 use Rattle.table.proofs.variables.Statement.{statement}
 use Rattle.table.proofs.variables.Tie as tie
 
-pub variables-spec : {M : Type 1} → statement M
-variables-spec = tie.close (tie.spec (λ c. omega (arith, trailing_le 64 c.args.n)) (λ c. search rules))
+pub variables_spec : {M : Type 1} → statement M
+variables_spec = tie.close (tie.spec (λ c. omega (arith, trailing_le 64 c.args.n)) (λ c. search rules))

@@ -9,7 +9,7 @@ returns c =
     let third = c.before.before.before in
     let second = third.before.before.before in
     let first = second.before.before.before in
-    holds _ (rw (c.add4.ensures, third.add3.ensures, second.add2.ensures, first.add.ensures) (add_law _ _))
+    holds _ (rw (c.add-4.ensures, third.add-3.ensures, second.add-2.ensures, first.add.ensures) (add_law _ _))
 
 pub add_spec : {M : Type 1} → statement M
 add_spec =

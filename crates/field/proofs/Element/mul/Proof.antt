@@ -11,30 +11,30 @@ returns c =
     let first = second.before.before in
     holds _
     (rw (
-      c.coordinate4.ensures,
-      third.coordinate3.ensures,
-      second.coordinate2.ensures,
+      c.coordinate-4.ensures,
+      third.coordinate-3.ensures,
+      second.coordinate-2.ensures,
       first.coordinate.ensures,
-      c.before.lines-3.ensures.once_is,
-      c.before.lines-3.ensures.back_is,
-      third.before.lines-2.ensures.once_is,
-      third.before.lines-2.ensures.back_is,
-      second.before.lines-1.ensures.once_is,
-      second.before.lines-1.ensures.back_is,
-      first.before.lines-0.ensures.once_is,
-      first.before.lines-0.ensures.back_is,
+      c.before.lines_3.ensures.once_is,
+      c.before.lines_3.ensures.back_is,
+      third.before.lines_2.ensures.once_is,
+      third.before.lines_2.ensures.back_is,
+      second.before.lines_1.ensures.once_is,
+      second.before.lines_1.ensures.back_is,
+      first.before.lines_0.ensures.once_is,
+      first.before.lines_0.ensures.back_is,
     ) (mul_law _ _))
 
-pub mul-spec : {M : Type 1} → statement M
-mul-spec =
+pub mul_spec : {M : Type 1} → statement M
+mul_spec =
     tie.close
     (tie.spec
     (λ c κs. search rules)
-    (λ c κs. c.lines-0.ensures.few)
+    (λ c κs. c.lines_0.ensures.few)
     (λ c κs. search rules)
-    (λ c κs. c.lines-1.ensures.few)
+    (λ c κs. c.lines_1.ensures.few)
     (λ c κs. search rules)
-    (λ c κs. c.lines-2.ensures.few)
+    (λ c κs. c.lines_2.ensures.few)
     (λ c κs. search rules)
-    (λ c κs. c.lines-3.ensures.few)
+    (λ c κs. c.lines_3.ensures.few)
     returns)

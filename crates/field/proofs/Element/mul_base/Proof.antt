@@ -9,10 +9,10 @@ returns c =
     let third = c.before.before in
     let second = third.before.before in
     let first = second.before.before in
-    holds _ (rw (c.mul4.ensures, third.mul3.ensures, second.mul2.ensures, first.mul.ensures) (scale_law _ _))
+    holds _ (rw (c.mul-4.ensures, third.mul-3.ensures, second.mul-2.ensures, first.mul.ensures) (scale_law _ _))
 
-pub mul-base-spec : {M : Type 1} → statement M
-mul-base-spec =
+pub mul_base_spec : {M : Type 1} → statement M
+mul_base_spec =
     tie.close
     (tie.spec
     (search rules)

@@ -9,10 +9,10 @@ returns c =
     let third = c.before.before in
     let second = third.before.before in
     let first = second.before.before in
-    holds _ (rw (c.neg4.ensures, third.neg3.ensures, second.neg2.ensures, first.neg.ensures) (neg_law _))
+    holds _ (rw (c.neg-4.ensures, third.neg-3.ensures, second.neg-2.ensures, first.neg.ensures) (neg_law _))
 
-pub neg-spec : {M : Type 1} → statement M
-neg-spec =
+pub neg_spec : {M : Type 1} → statement M
+neg_spec =
     tie.close
     (tie.spec
     (search rules)

@@ -9,7 +9,7 @@ returns c =
     let third = c.before.before.before in
     let second = third.before.before.before in
     let first = second.before.before.before in
-    holds _ (rw (c.sub4.ensures, third.sub3.ensures, second.sub2.ensures, first.sub.ensures) (sub_law _ _))
+    holds _ (rw (c.sub-4.ensures, third.sub-3.ensures, second.sub-2.ensures, first.sub.ensures) (sub_law _ _))
 
 pub sub_spec : {M : Type 1} → statement M
 sub_spec =

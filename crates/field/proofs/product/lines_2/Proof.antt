@@ -33,29 +33,29 @@ begin c = c.before.before.before.before
 
 after-1 : (c : tie.After-line) → At (begin c) (line 0 2 false 2 ∷ []) c.line.result
 after-1 c =
-    step _ _ _ (line 0 2 false 2) (start _ _ _ c.before.before.before.none.ensures) c.before.before.term-0.ensures c.before.term-2.ensures
+    step _ _ _ (line 0 2 false 2) (start _ _ _ c.before.before.before.none.ensures) c.before.before.term_0.ensures c.before.term_2.ensures
     c.line.ensures
 
-abbrev begin-2 : tie.After-line2 → tie.Start
+abbrev begin-2 : tie.After-line-2 → tie.Start
 begin-2 c = begin c.before.before.before
 
-after-2 : (c : tie.After-line2) → At (begin-2 c) (line 1 1 false 2 ∷ line 0 2 false 2 ∷ []) c.line2.result
+after-2 : (c : tie.After-line-2) → At (begin-2 c) (line 1 1 false 2 ∷ line 0 2 false 2 ∷ []) c.line-2.result
 after-2 c =
     step _ _ _ (line 1 1 false 2) (after-1 c.before.before.before)
-    c.before.before.term-1.ensures c.before.term-12.ensures c.line2.ensures
+    c.before.before.term_1.ensures c.before.term_1-2.ensures c.line-2.ensures
 
-abbrev begin-3 : tie.After-line3 → tie.Start
+abbrev begin-3 : tie.After-line-3 → tie.Start
 begin-3 c = begin-2 c.before.before.before
 
-after-3 : (c : tie.After-line3) → At (begin-3 c) three c.line3.result
+after-3 : (c : tie.After-line-3) → At (begin-3 c) three c.line-3.result
 after-3 c =
     step _ _ _ (line 2 0 false 2) (after-2 c.before.before.before)
-    c.before.before.term-22.ensures c.before.term-02.ensures c.line3.ensures
+    c.before.before.term_2-2.ensures c.before.term_0-2.ensures c.line-3.ensures
 
-after-4 : (c : tie.After-line4) → At (begin-3 c.before.before.before) four c.line4.result
+after-4 : (c : tie.After-line-4) → At (begin-3 c.before.before.before) four c.line-4.result
 after-4 c =
     step _ _ _ (line 3 3 true 2) (after-3 c.before.before.before)
-    c.before.before.term-3.ensures c.before.term-32.ensures c.line4.ensures
+    c.before.before.term_3.ensures c.before.term_3-2.ensures c.line-4.ensures
 
 line-requires : tie.Need-line-requires
 unfolding power quartic constant
@@ -64,33 +64,33 @@ line-requires c κs =
     let pre = begin.requires in
     asked _ _ _ (by_one 0 2 2 tt)
     (start begin.args.x begin.args.y begin.args.back c.before.before.none.ensures) (omega arith)
-    c.before.term-0.ensures c.term-2.ensures pre.0 pre.1
+    c.before.term_0.ensures c.term_2.ensures pre.0 pre.1
 
 line-requires-2 : tie.Need-line-requires-2
 unfolding power quartic constant
 line-requires-2 c κs =
     let pre = (begin c.before.before).requires in
-    asked _ _ _ (by_one 1 1 2 tt) (after-1 c.before.before) (omega arith) c.before.term-1.ensures c.term-12.ensures pre.0 pre.1
+    asked _ _ _ (by_one 1 1 2 tt) (after-1 c.before.before) (omega arith) c.before.term_1.ensures c.term_1-2.ensures pre.0 pre.1
 
 line-requires-3 : tie.Need-line-requires-3
 unfolding power quartic constant
 line-requires-3 c κs =
     let pre = (begin-2 c.before.before).requires in
-    asked _ _ _ (by_one 2 0 2 tt) (after-2 c.before.before) (omega arith) c.before.term-22.ensures c.term-02.ensures pre.0 pre.1
+    asked _ _ _ (by_one 2 0 2 tt) (after-2 c.before.before) (omega arith) c.before.term_2-2.ensures c.term_0-2.ensures pre.0 pre.1
 
 line-requires-4 : tie.Need-line-requires-4
 unfolding power quartic constant
 line-requires-4 c κs =
     let pre = (begin-3 c.before.before).requires in
-    asked _ _ _ (by_factor 3 3 2 tt) (after-3 c.before.before) (omega arith) c.before.term-3.ensures c.term-32.ensures pre.0 pre.2
+    asked _ _ _ (by_factor 3 3 2 tt) (after-3 c.before.before) (omega arith) c.before.term_3.ensures c.term_3-2.ensures pre.0 pre.2
 
 returns : tie.Need-returns
 returns c =
     let args = (begin-3 c.before.before.before).args in
     finish _ _ _ 2 (after-4 c) refl (once-law args.x args.y args.back) (back-law args.x args.y args.back)
 
-pub lines-2-spec : {M : Type 1} → statement M
-lines-2-spec =
+pub lines_2_spec : {M : Type 1} → statement M
+lines_2_spec =
     tie.close
     (tie.spec
     (search rules)

@@ -6,15 +6,15 @@ use Rattle.field.proofs.word.add.Statement.{statement}
 use Rattle.field.proofs.word.add.Tie as tie
 
 -- without the bit nothing was wrapped
-returns : tie.Need-returns
+returns : tie.Need-returns-then-s-lt-SIGN
 returns c =
-    let less = c.before.wrapping-sub-u32 in
-    let fits : less.result + p < unit = omega (arith, c.if1.true) in
+    let less = c.before.wrapping_sub_u32-s in
+    let fits : less.result + p < unit = omega (arith, c.if-s-lt-SIGN.true) in
     let whole : less.result + p ≡ c.before.before.args.a + c.before.before.args.b = sym (mod-eq_of_lt fits) ∙ less.ensures in
     omega (arith, whole)
 
-returns-2 : tie.Need-returns-2
-returns-2 c = omega (arith, c.wrapping-add-u32.ensures, c.before.before.wrapping-sub-u32.ensures, c.before.if1.false)
+returns-2 : tie.Need-returns-else-s-lt-SIGN
+returns-2 c = omega (arith, c.wrapping_add_u32.ensures, c.before.before.wrapping_sub_u32-s.ensures, c.before.if-s-lt-SIGN.false)
 
 pub add_spec : {M : Type 1} → statement M
 add_spec = tie.close (tie.spec (search rules) (search rules) (search rules) returns returns-2)

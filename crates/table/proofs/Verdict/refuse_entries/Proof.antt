@@ -8,15 +8,15 @@ returns c =
     let many = c.before.before in
     let power = many.before.before in
     rw (
-      c.refuse-if3.ensures,
+      c.refuse_if-3.ensures,
       c.before.too_many.ensures,
-      many.refuse-if2.ensures,
-      many.before.too-many-variables.ensures,
-      power.refuse-if.ensures,
-      power.before.not-power.ensures,
+      many.refuse_if-2.ensures,
+      many.before.too_many_variables.ensures,
+      power.refuse_if.ensures,
+      power.before.not_power.ensures,
     )
 
-pub refuse-entries-spec : {M : Type 1} → statement M
-refuse-entries-spec =
+pub refuse_entries_spec : {M : Type 1} → statement M
+refuse_entries_spec =
     tie.close
     (tie.spec (search rules) (search rules) (search rules) (search rules) (search rules) (search rules) returns)

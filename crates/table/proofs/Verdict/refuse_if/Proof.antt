@@ -5,16 +5,16 @@ use Rattle.table.proofs.Verdicts.{stays}
 use Rattle.table.proofs.Verdict.refuse_if.Statement.{statement}
 use Rattle.table.proofs.Verdict.refuse_if.Tie as tie
 
-returns : tie.Need-returns
-returns c = stays c.before.self.given.1 _ _
+returns : tie.Need-returns-in-Refused
+returns c = stays c.in-Refused.is _ _
 
-returns-2 : tie.Need-returns-2
+returns-2 : tie.Need-returns-then-test
 unfolding refuse_if
-returns-2 c = rw (c.if1.true, c.before.enum_told.given.1)
+returns-2 c = rw (c.if-test.true, c.before.in-Accepted.is)
 
-returns-3 : tie.Need-returns-3
+returns-3 : tie.Need-returns-else-test
 unfolding refuse_if
-returns-3 c = rw (c.if1.false, c.before.enum_told.given.1)
+returns-3 c = rw (c.if-test.false, c.before.in-Accepted.is)
 
-pub refuse-if-spec : {M : Type 1} → statement M
-refuse-if-spec = tie.close (tie.spec (search rules) (search rules) returns returns-2 returns-3)
+pub refuse_if_spec : {M : Type 1} → statement M
+refuse_if_spec = tie.close (tie.spec (search rules) (search rules) returns returns-2 returns-3)

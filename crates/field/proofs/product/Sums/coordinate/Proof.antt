@@ -8,5 +8,5 @@ use Rattle.field.proofs.product.Sums.coordinate.Tie as tie
 returns : tie.Need-returns
 returns c = rw (sym c.before.before.shrink.ensures.0) (c.residue.ensures ∙ sym (add_mul_mod _ factor _ p))
 
-pub coordinate-spec : {M : Type 1} → statement M
-coordinate-spec = tie.close (tie.spec (search rules) (search rules) (search rules) (search rules) (search rules) returns)
+pub coordinate_spec : {M : Type 1} → statement M
+coordinate_spec = tie.close (tie.spec (search rules) (search rules) (search rules) (search rules) (search rules) returns)
