@@ -4,10 +4,10 @@ use Rattle.frame.proofs.coordinate.Statement.{statement}
 use Rattle.frame.proofs.coordinate.Tie as tie
 
 returns : tie.Need-returns
-returns c = rw (c.element.ensures, c.before.number.ensures.0, c.before.before.bare.ensures)
+returns c = rw (c.element-frame.ensures, c.before.number.ensures.0, c.before.before.bare-frame.ensures)
 
-pub coordinate-spec : {M : Type 1} → statement M
-coordinate-spec =
+pub coordinate_spec : {M : Type 1} → statement M
+coordinate_spec =
     tie.close
     (tie.spec
     (search rules)

@@ -6,13 +6,13 @@ use lib.Seq.{length-take-le}
 use Rattle.frame.proofs.decode.Statement.{statement}
 use Rattle.frame.proofs.decode.Tie as tie
 
-slice-aggregate-read : tie.Need-slice-aggregate-read
+slice-aggregate-read : tie.Need-slice_bounds-read-end
 slice-aggregate-read c =
-    let told = c.before.before.spelled in
-    sym (length-take-le _ told.new.1.0 (omega (arith, told.ensures.0)))
+    let told = c.before.before.spelled-count in
+    sym (length-take-le _ told.new.bytes (omega (arith, told.ensures.0)))
 
-pub decode-spec : {M : Type 1} → statement M
-decode-spec =
+pub decode_spec : {M : Type 1} → statement M
+decode_spec =
     tie.close
     (tie.spec
     (search rules)
@@ -21,4 +21,4 @@ decode-spec =
     (search rules)
     slice-aggregate-read
     (search rules)
-    (λ c. c.read.ensures ∙ c.before.before.before.spelled.ensures.1))
+    (λ c. c.read.ensures ∙ c.before.before.before.spelled-count.ensures.1))

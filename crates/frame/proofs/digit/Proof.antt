@@ -16,11 +16,11 @@ number c h d = (rw (lt-leb 97 c h), omega (arith, number_range c h d))
 letter : (c : ℕ) → 97 ≤ c → is_digit c ≡ true → (c - 87 ≡ digit_of c) × (c - 87 < 16)
 letter c h d = (rw (le-leb 97 c h), omega (arith, letter_range c h d))
 
-pub digit-spec : {M : Type 1} → statement M
-digit-spec =
+pub digit_spec : {M : Type 1} → statement M
+digit_spec =
     tie.close
     (tie.spec
-    (λ c. omega (arith, number_range _ c.if1.true c.before.requires))
+    (λ c. omega (arith, number_range _ c.if-c-lt97.true c.before.requires))
     (search rules)
-    (λ c. number _ c.if1.true c.before.requires)
-    (λ c. letter _ c.if1.false c.before.requires))
+    (λ c. number _ c.if-c-lt97.true c.before.requires)
+    (λ c. letter _ c.if-c-lt97.false c.before.requires))

@@ -6,29 +6,29 @@ use Rattle.frame.proofs.Printing.{Printed, start, turn, end}
 use Rattle.frame.proofs.digits.Statement.{statement}
 use Rattle.frame.proofs.digits.Tie as tie
 
-abbrev invariant-loop : tie.invariant-loop
+abbrev invariant-loop : tie.invariant-loop-i
 invariant-loop ws text₀ i₀ i-end text i = Printed ws text₀ text i
 
-abbrev decreases-loop : tie.decreases-loop
+abbrev decreases-loop : tie.decreases-loop-i
 decreases-loop ws text₀ i₀ i-end text i = i-end - i
 
-put-word-requires : tie.Need-put-word-requires invariant-loop decreases-loop
+put-word-requires : tie.Need-put_word-requires invariant-loop decreases-loop
 put-word-requires c κs = omega arith
 
-loop-again : tie.Need-loop-preserved invariant-loop decreases-loop
+loop-again : tie.Need-loop-i-preserved invariant-loop decreases-loop
 loop-again c =
     let called = c.before.before in
     let inside = called.before.before.before in
-    turn inside.before.before.before.before.requires inside.before.loop.invariant inside.loop-test.true called.put_word.ensures
+    turn inside.before.before.before.before.requires inside.before.loop-i.invariant inside.loop-i-test.true called.put_word.ensures
 
-same_length : tie.Need-same-length invariant-loop decreases-loop
-same_length c = c.before.loop.invariant.same
+same_length : tie.Need-shape_of-text invariant-loop decreases-loop
+same_length c = c.before.loop-i.invariant.same
 
 returns : tie.Need-returns invariant-loop decreases-loop
-returns c = end c.before.before.before.before.requires c.before.loop.invariant c.loop-test.false
+returns c = end c.before.before.before.before.requires c.before.loop-i.invariant c.loop-i-test.false
 
-pub digits-spec : {M : Type 1} → statement M
-digits-spec =
+pub digits_spec : {M : Type 1} → statement M
+digits_spec =
     tie.close
     (tie.spec
     invariant-loop

@@ -17,10 +17,10 @@ returns c =
     let three = c.before in
     let two = three.before in
     let one = two.before in
-    ap made (four _ _ _ _ _ _ one.word.ensures two.word2.ensures three.word3.ensures c.word4.ensures)
+    ap made (four _ _ _ _ _ _ one.word.ensures two.word-2.ensures three.word-3.ensures c.word-4.ensures)
 
-pub element-spec : {M : Type 1} → statement M
-element-spec =
+pub element_spec : {M : Type 1} → statement M
+element_spec =
     tie.close
     (tie.spec
     (λ c κs. search rules)

@@ -9,14 +9,14 @@ use Rattle.frame.specs.Frame.{byte_at}
 use Rattle.frame.proofs.is_words.Statement.{statement}
 use Rattle.frame.proofs.is_words.Tie as tie
 
-returns : tie.Need-returns
+returns : tie.Need-returns-then-bytes-lt2
 returns c =
     let bs = c.before.before.args.bytes.now in
     let short : length bs ≡ 2 + 4 * byte_at bs 1 → ⊥ = λ e. omega arith in
     rw (ne_eqb (length bs) (2 + 4 * byte_at bs 1) short)
 
-pub is-words-spec : {M : Type 1} → statement M
-is-words-spec =
+pub is_words_spec : {M : Type 1} → statement M
+is_words_spec =
     tie.close
     (tie.spec
     returns
@@ -24,5 +24,5 @@ is-words-spec =
     (search rules)
     (search rules)
     (search rules)
-    (λ c. rw (← c.before.before.number.ensures.0, sym c.before.starts.ensures ∙ c.if2.true))
-    (λ c. rw (← c.before.before.number.ensures.0, sym c.before.starts.ensures ∙ c.if2.false) c.if2.false))
+    (λ c. rw (← c.before.before.number-count.ensures.0, sym c.before.starts.ensures ∙ c.if-starts.true))
+    (λ c. rw (← c.before.before.number-count.ensures.0, sym c.before.starts.ensures ∙ c.if-starts.false) c.if-starts.false))

@@ -5,10 +5,10 @@ use borrow.Author.Rules.{rules}
 use Rattle.frame.proofs.number.Statement.{statement}
 use Rattle.frame.proofs.number.Tie as tie
 
-pub number-spec : {M : Type 1} → statement M
-number-spec =
+pub number_spec : {M : Type 1} → statement M
+number_spec =
     tie.close
     (tie.spec
     (search rules)
-    (λ c. omega (arith, c.shared-slice-known.given c.before.args.i))
-    (λ c. (refl, omega (arith, c.shared-slice-known.given c.before.args.i))))
+    (λ c. omega (arith, c.shared_slice_known-1.given c.before.args.i))
+    (λ c. (refl, omega (arith, c.shared_slice_known-1.given c.before.args.i))))

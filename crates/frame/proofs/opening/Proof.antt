@@ -12,14 +12,14 @@ returns c =
     rw (
       c.no_words.ensures,
       scaled.element.ensures,
-      second.number2.ensures.0,
+      second.number-2.ensures.0,
       first.number.ensures.0,
       weighed.weight.ensures,
       weighed.before.side.ensures,
     )
 
-pub opening-spec : {M : Type 1} → statement M
-opening-spec =
+pub opening_spec : {M : Type 1} → statement M
+opening_spec =
     tie.close
     (tie.spec
     (λ c κs. search rules)

@@ -7,10 +7,10 @@ use Rattle.frame.proofs.put_byte.Statement.{statement}
 use Rattle.frame.proofs.put_byte.Tie as tie
 
 returns : tie.Need-returns
-returns c = rw (c.before.glyph.ensures, c.glyph2.ensures, add-one)
+returns c = rw (c.before.glyph.ensures, c.glyph-2.ensures, add-one)
 
-pub put-byte-spec : {M : Type 1} → statement M
-put-byte-spec =
+pub put_byte_spec : {M : Type 1} → statement M
+put_byte_spec =
     tie.close
     (tie.spec
     (λ c κs. search rules)

@@ -19,12 +19,12 @@ returns c =
     _
     _
     first.put_byte.ensures
-    second.put-byte2.ensures
-    third.put-byte3.ensures
-    fourth.put-byte4.ensures
+    second.put_byte-2.ensures
+    third.put_byte-3.ensures
+    fourth.put_byte-4.ensures
 
-pub put-word-spec : {M : Type 1} → statement M
-put-word-spec =
+pub put_word_spec : {M : Type 1} → statement M
+put_word_spec =
     tie.close
     (tie.spec
     (λ c κs. search rules)

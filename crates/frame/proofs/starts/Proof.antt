@@ -4,7 +4,7 @@ use borrow.Author.Tests.{eq-eqb, ne_eqb}
 use Rattle.frame.proofs.starts.Statement.{statement}
 use Rattle.frame.proofs.starts.Tie as tie
 
-pub starts-spec : {M : Type 1} → statement M
-starts-spec =
+pub starts_spec : {M : Type 1} → statement M
+starts_spec =
     tie.close
-    (tie.spec (λ c. simp (ne_eqb _ _ c.if1.true)) (search rules) (λ c. simp (eq-eqb _ _ c.before.if1.false)))
+    (tie.spec (λ c. simp (ne_eqb _ _ c.if-bytes-size.true)) (search rules) (λ c. simp (eq-eqb _ _ c.before.if-bytes-size.false)))

@@ -5,25 +5,25 @@ use Rattle.frame.proofs.Reading.{Taken, start, turn, end}
 use Rattle.frame.proofs.words.Statement.{statement}
 use Rattle.frame.proofs.words.Tie as tie
 
-abbrev invariant-loop : tie.invariant-loop
+abbrev invariant-loop : tie.invariant-loop-i
 invariant-loop bytes count words₀ i₀ words i = Taken bytes count i words
 
-abbrev decreases-loop : tie.decreases-loop
+abbrev decreases-loop : tie.decreases-loop-i
 decreases-loop bytes count words₀ i₀ words i = count - i
 
-loop-again : tie.Need-loop-preserved invariant-loop decreases-loop
+loop-again : tie.Need-loop-i-preserved invariant-loop decreases-loop
 loop-again c =
     let inside = c.before in
-    turn inside.before.loop.invariant inside.loop-test.true inside.before.before.before.before.requires.0 c.word.ensures
+    turn inside.before.loop-i.invariant inside.loop-i-test.true inside.before.before.before.before.requires.0 c.word.ensures
 
-pub words-spec : {M : Type 1} → statement M
-words-spec =
+pub words_spec : {M : Type 1} → statement M
+words_spec =
     tie.close
     (tie.spec
     invariant-loop
     decreases-loop
     (search rules)
-    (λ c. start _ _ c.no_words.ensures)
+    (λ c. start _ _ c.no_words-words.ensures)
     (search rules)
     (search rules)
     (λ c κs. search rules)
@@ -32,4 +32,4 @@ words-spec =
     (search rules)
     (search rules)
     loop-again
-    (λ c. end c.before.loop.invariant c.loop-test.false))
+    (λ c. end c.before.loop-i.invariant c.loop-i-test.false))

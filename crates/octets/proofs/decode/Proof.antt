@@ -8,23 +8,23 @@ use Rattle.octets.proofs.Decoding.{Decoded, start, turn, finish}
 use Rattle.octets.proofs.decode.Statement.{statement}
 use Rattle.octets.proofs.decode.Tie as tie
 
-abbrev invariant-loop : tie.invariant-loop
+abbrev invariant-loop : tie.invariant-loop-i
 invariant-loop bytes from ws₀ i₀ i-end ws i = Decoded bytes from (length ws₀) i ws
 
-abbrev decreases-loop : tie.decreases-loop
+abbrev decreases-loop : tie.decreases-loop-i
 decreases-loop bytes from ws₀ i₀ i-end ws i = length ws₀ - i
 
-loop-holds : tie.Need-loop-init invariant-loop decreases-loop
+loop-holds : tie.Need-loop-i-init invariant-loop decreases-loop
 loop-holds c = start refl
 
-loop-again : tie.Need-loop-preserved invariant-loop decreases-loop
-loop-again c = turn c.before.before.loop.invariant c.before.loop-test.true c.word_at.ensures
+loop-again : tie.Need-loop-i-preserved invariant-loop decreases-loop
+loop-again c = turn c.before.before.loop-i.invariant c.before.loop-i-test.true c.word_at.ensures
 
 returns : tie.Need-returns invariant-loop decreases-loop
-returns c = finish c.before.loop.invariant (omega arith) (omega arith)
+returns c = finish c.before.loop-i.invariant (omega arith) (omega arith)
 
-pub decode-spec : {M : Type 1} → statement M
-decode-spec =
+pub decode_spec : {M : Type 1} → statement M
+decode_spec =
     tie.close
     (tie.spec
     invariant-loop

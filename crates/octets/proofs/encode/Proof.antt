@@ -8,25 +8,25 @@ use Rattle.octets.proofs.Encoding.{Encoded, start, turn, finish}
 use Rattle.octets.proofs.encode.Statement.{statement}
 use Rattle.octets.proofs.encode.Tie as tie
 
-abbrev invariant-loop : tie.invariant-loop
+abbrev invariant-loop : tie.invariant-loop-i
 invariant-loop ws bytes₀ i₀ i-end bytes i = Encoded ws bytes₀ i bytes
 
-abbrev decreases-loop : tie.decreases-loop
+abbrev decreases-loop : tie.decreases-loop-i
 decreases-loop ws bytes₀ i₀ i-end bytes i = length ws - i
 
-loop-holds : tie.Need-loop-init invariant-loop decreases-loop
+loop-holds : tie.Need-loop-i-init invariant-loop decreases-loop
 loop-holds c = start
 
-loop-again : tie.Need-loop-preserved invariant-loop decreases-loop
+loop-again : tie.Need-loop-i-preserved invariant-loop decreases-loop
 loop-again c =
     let at = c.before.before.before.before.before.before in
-    turn at.loop.invariant (omega arith) (omega arith) refl c.before.before.put_word.ensures
+    turn at.loop-i.invariant (omega arith) (omega arith) refl c.before.before.put_word.ensures
 
 returns : tie.Need-returns invariant-loop decreases-loop
-returns c = finish c.before.loop.invariant (omega arith) (omega arith)
+returns c = finish c.before.loop-i.invariant (omega arith) (omega arith)
 
-pub encode-spec : {M : Type 1} → statement M
-encode-spec =
+pub encode_spec : {M : Type 1} → statement M
+encode_spec =
     tie.close
     (tie.spec
     invariant-loop

@@ -19,8 +19,8 @@ returns : tie.Need-returns
 unfolding octets
 returns c = simp (add-one, add_two, add-three)
 
-pub put-word-spec : {M : Type 1} → statement M
-put-word-spec =
+pub put_word_spec : {M : Type 1} → statement M
+put_word_spec =
     tie.close
     (tie.spec
     (search rules)

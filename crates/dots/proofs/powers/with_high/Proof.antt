@@ -8,11 +8,11 @@ use Rattle.dots.proofs.powers.with_high.Tie as tie
 
 returns : tie.Need-returns
 returns c =
-    rw (c.residue.ensures, c.before.settle2.ensures, c.before.before.settle.ensures)
+    rw (c.residue.ensures, c.before.settle-2.ensures, c.before.before.settle.ensures)
     (mod-add-mod _ _ _ ∙ add_mul_mod _ _ _ _)
 
-pub with-high-spec : {M : Type 1} → statement M
-with-high-spec =
+pub with_high_spec : {M : Type 1} → statement M
+with_high_spec =
     tie.close
     (tie.spec
     (λ c κs. search rules)

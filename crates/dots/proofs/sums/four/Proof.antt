@@ -29,10 +29,10 @@ returns : tie.Need-returns
 returns c =
     let third = c.before in
     let second = third.before in
-    next_four _ _ _ _ _ _ _ _ second.before.one.ensures.0 second.one2.ensures.0 third.one3.ensures.0 c.one4.ensures.0
+    next_four _ _ _ _ _ _ _ _ second.before.one.ensures.0 second.one-2.ensures.0 third.one-3.ensures.0 c.one-4.ensures.0
 
-pub four-spec : {M : Type 1} → statement M
-four-spec =
+pub four_spec : {M : Type 1} → statement M
+four_spec =
     tie.close
     (tie.spec
     one-requires

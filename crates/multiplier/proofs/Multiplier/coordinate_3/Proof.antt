@@ -7,9 +7,9 @@ use Rattle.multiplier.proofs.Multiplier.coordinate_3.Tie as tie
 
 returns : tie.Need-returns
 returns c =
-    let gathered = c.before.lines-3.ensures in
+    let gathered = c.before.lines_3.ensures in
     rw (c.lowered.ensures, gathered.once_is, gathered.back_is) (word_3 _ _ c.before.before.requires.0)
 
-pub coordinate-3-spec : {M : Type 1} → statement M
-coordinate-3-spec =
-    tie.close (tie.spec (λ c κs. (c.requires.1, c.requires.0.raised.below, c.requires.0.raised_back.below)) (λ c κs. c.lines-3.ensures.few) returns)
+pub coordinate_3_spec : {M : Type 1} → statement M
+coordinate_3_spec =
+    tie.close (tie.spec (λ c κs. (c.requires.1, c.requires.0.raised.below, c.requires.0.raised_back.below)) (λ c κs. c.lines_3.ensures.few) returns)

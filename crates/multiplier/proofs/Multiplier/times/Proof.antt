@@ -6,8 +6,8 @@ use Rattle.multiplier.proofs.Multiplier.times.Tie as tie
 
 returns : tie.Need-returns
 returns c =
-    four_words_lem _ c.before.before.before.coordinate-0.ensures c.before.before.coordinate-1.ensures c.before.coordinate-2.ensures
-    c.coordinate-3.ensures
+    four_words_lem _ c.before.before.before.coordinate_0.ensures c.before.before.coordinate_1.ensures c.before.coordinate_2.ensures
+    c.coordinate_3.ensures
 
-pub times-spec : {M : Type 1} → statement M
-times-spec = tie.close (tie.spec (λ c κs. search rules) (λ c κs. search rules) (λ c κs. search rules) (λ c κs. search rules) returns)
+pub times_spec : {M : Type 1} → statement M
+times_spec = tie.close (tie.spec (λ c κs. search rules) (λ c κs. search rules) (λ c κs. search rules) (λ c κs. search rules) returns)

@@ -7,12 +7,12 @@ use Rattle.dots.proofs.Settling.{settle_law}
 use Rattle.dots.proofs.halves.Halves.settle.Statement.{statement}
 use Rattle.dots.proofs.halves.Halves.settle.Tie as tie
 
-add-halves : tie.Need-overflow-add-residue
+add-halves : tie.Need-overflow_add-self
 unfolding Within
 add-halves c = omega (arith, c.before.before.requires)
 
 returns : tie.Need-returns
 returns c = c.residue.ensures ∙ settle_law _
 
-pub settle-spec : {M : Type 1} → statement M
-settle-spec = tie.close (tie.spec (search rules) (search rules) (search rules) add-halves (search rules) returns)
+pub settle_spec : {M : Type 1} → statement M
+settle_spec = tie.close (tie.spec (search rules) (search rules) (search rules) add-halves (search rules) returns)

@@ -5,10 +5,10 @@ use Rattle.dots.proofs.powers.Powers.gain.Statement.{statement}
 use Rattle.dots.proofs.powers.Powers.gain.Tie as tie
 
 -- the last two sums have room by the contract; `search` does not find it from here
-gain-requires-6 : tie.Need-gain-requires-6
+gain-requires-6 : tie.Need-gain-s1-requires
 gain-requires-6 c κs = c.before.before.before.before.before.before.before.before.before.requires.0.at1
 
-gain-requires-7 : tie.Need-gain-requires-7
+gain-requires-7 : tie.Need-gain-s5-requires
 gain-requires-7 c κs = c.before.before.before.before.before.before.before.before.before.before.requires.0.at5
 
 returns : tie.Need-returns
@@ -19,17 +19,17 @@ returns c =
     let lines3 = lines2.before.before in
     let lines0 = lines3.before.before.before in
     record {
-      at0 = rw lines0.lines-0.ensures.once_is at lines3.before.before.gain.ensures;
-      at1 = rw lines1.lines-1.ensures.once_is at c.before.gain6.ensures;
-      at2 = rw lines2.lines-2.ensures.once_is at lines1.before.before.gain4.ensures;
-      at3 = rw lines3.lines-3.ensures.once_is at lines2.before.gain3.ensures;
-      at4 = rw lines0.lines-0.ensures.back_is at lines3.before.gain2.ensures;
-      at5 = rw lines1.lines-1.ensures.back_is at c.gain7.ensures;
-      at6 = rw lines2.lines-2.ensures.back_is at lines1.before.gain5.ensures;
+      at0 = rw lines0.lines_0-at0.ensures.once_is at lines3.before.before.gain-s0.ensures;
+      at1 = rw lines1.lines_1-at1.ensures.once_is at c.before.gain-s1.ensures;
+      at2 = rw lines2.lines_2-at2.ensures.once_is at lines1.before.before.gain-s2.ensures;
+      at3 = rw lines3.lines_3-at3.ensures.once_is at lines2.before.gain-s3.ensures;
+      at4 = rw lines0.lines_0-at0.ensures.back_is at lines3.before.gain-s4.ensures;
+      at5 = rw lines1.lines_1-at1.ensures.back_is at c.gain-s5.ensures;
+      at6 = rw lines2.lines_2-at2.ensures.back_is at lines1.before.gain-s6.ensures;
     }
 
-pub gain-spec : {M : Type 1} → statement M
-gain-spec =
+pub gain_spec : {M : Type 1} → statement M
+gain_spec =
     tie.close
     (tie.spec
     (λ c κs. search rules)

@@ -9,10 +9,10 @@ unfolding settled_powers
 returns c =
     let third = c.before in
     let second = third.before in
-    rw (c.settle.ensures, third.with-high3.ensures, second.with-high2.ensures, second.before.with-high.ensures)
+    rw (c.settle.ensures, third.with_high-3.ensures, second.with_high-2.ensures, second.before.with_high.ensures)
 
-pub settle-spec : {M : Type 1} → statement M
-settle-spec =
+pub settle_spec : {M : Type 1} → statement M
+settle_spec =
     tie.close
     (tie.spec
     (λ c κs. search rules)

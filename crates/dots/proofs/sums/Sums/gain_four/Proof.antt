@@ -33,12 +33,12 @@ returns c =
     let begin = first.before.before.before.before in
     turn _ _ _ begin.requires.0.dots begin.requires.1 4 (omega arith) begin.requires.0.there
     first.before.four.ensures first.gain.ensures
-    second.before.four2.ensures second.gain2.ensures
-    third.before.four3.ensures third.gain3.ensures
-    c.before.four4.ensures c.gain4.ensures
+    second.before.four-2.ensures second.gain-2.ensures
+    third.before.four-3.ensures third.gain-3.ensures
+    c.before.four-4.ensures c.gain-4.ensures
 
-pub gain-four-spec : {M : Type 1} → statement M
-gain-four-spec =
+pub gain_four_spec : {M : Type 1} → statement M
+gain_four_spec =
     tie.close
     (tie.spec
     (λ c κs. search rules)

@@ -33,12 +33,12 @@ returns c =
     let begin = first.before.before.before.before in
     turn _ _ _ begin.requires.0.dots begin.requires.1 1 (omega arith) begin.requires.0.there
     first.before.one.ensures.0 first.gain.ensures
-    second.before.one2.ensures.0 second.gain2.ensures
-    third.before.one3.ensures.0 third.gain3.ensures
-    c.before.one4.ensures.0 c.gain4.ensures
+    second.before.one-2.ensures.0 second.gain-2.ensures
+    third.before.one-3.ensures.0 third.gain-3.ensures
+    c.before.one-4.ensures.0 c.gain-4.ensures
 
-pub gain-one-spec : {M : Type 1} → statement M
-gain-one-spec =
+pub gain_one_spec : {M : Type 1} → statement M
+gain_one_spec =
     tie.close
     (tie.spec
     (λ c κs. search rules)

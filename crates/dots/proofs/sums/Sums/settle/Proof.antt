@@ -10,10 +10,10 @@ returns c =
     let third = c.before in
     let second = third.before in
     let first = second.before in
-    rw (first.settle.ensures, second.settle2.ensures, third.settle3.ensures, c.settle4.ensures)
+    rw (first.settle.ensures, second.settle-2.ensures, third.settle-3.ensures, c.settle-4.ensures)
 
-pub settle-spec : {M : Type 1} → statement M
-settle-spec =
+pub settle_spec : {M : Type 1} → statement M
+settle_spec =
     tie.close
     (tie.spec
     (λ c κs. search rules)
