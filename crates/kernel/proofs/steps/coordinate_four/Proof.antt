@@ -10,14 +10,14 @@ returns c =
     let second = third.before in
     rw (
       c.residue.ensures,
-      fourth.wide4.ensures.0,
-      third.wide3.ensures.0,
-      second.wide2.ensures.0,
+      fourth.wide-4.ensures.0,
+      third.wide-3.ensures.0,
+      second.wide-2.ensures.0,
       second.before.wide.ensures.0,
     )
 
-pub coordinate-four-spec : {M : Type 1} → statement M
-coordinate-four-spec =
+pub coordinate_four_spec : {M : Type 1} → statement M
+coordinate_four_spec =
     tie.close
     (tie.spec
     (λ c κs. search rules)

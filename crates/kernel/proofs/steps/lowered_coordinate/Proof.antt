@@ -7,10 +7,10 @@ use Rattle.kernel.proofs.steps.lowered_coordinate.Statement.{statement}
 use Rattle.kernel.proofs.steps.lowered_coordinate.Tie as tie
 
 returns : tie.Need-returns
-returns c = rw (c.lower.ensures, c.before.wide2.ensures.0, c.before.before.wide.ensures.0)
+returns c = rw (c.lower.ensures, c.before.wide-2.ensures.0, c.before.before.wide.ensures.0)
 
-pub lowered-coordinate-spec : {M : Type 1} → statement M
-lowered-coordinate-spec =
+pub lowered_coordinate_spec : {M : Type 1} → statement M
+lowered_coordinate_spec =
     tie.close
     (tie.spec
     (λ c κs. search rules)

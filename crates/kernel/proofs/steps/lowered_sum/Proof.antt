@@ -15,15 +15,15 @@ returns c =
     let second = third.before in
     rw (
       c.lower.ensures,
-      fourth.wide4.ensures.0,
-      third.wide3.ensures.0,
-      second.wide2.ensures.0,
+      fourth.wide-4.ensures.0,
+      third.wide-3.ensures.0,
+      second.wide-2.ensures.0,
       second.before.wide.ensures.0,
     )
     (ap (λ n. n * unit_inverse % p) (omega arith))
 
-pub lowered-sum-spec : {M : Type 1} → statement M
-lowered-sum-spec =
+pub lowered_sum_spec : {M : Type 1} → statement M
+lowered_sum_spec =
     tie.close
     (tie.spec
     (λ c κs. search rules)

@@ -11,7 +11,7 @@ returns c =
     let second = third.before.before.before in
     let first = second.before.before.before in
     holds _
-    (rw (first.coordinate.ensures, second.coordinate2.ensures, third.coordinate3.ensures, c.coordinate4.ensures)
+    (rw (first.coordinate.ensures, second.coordinate-2.ensures, third.coordinate-3.ensures, c.coordinate-4.ensures)
     (gain_law _ _ _))
 
 pub step_spec : {M : Type 1} → statement M

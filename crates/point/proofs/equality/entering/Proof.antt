@@ -3,8 +3,8 @@ use borrow.Author.Rules.{rules}
 use Rattle.point.proofs.equality.entering.Statement.{statement}
 use Rattle.point.proofs.equality.entering.Tie as tie
 
-returns : tie.Need-returns
-returns c = rw c.enum_told.given.1
+returns : tie.Need-returns-in-Msb
+returns c = rw c.in-Msb.is
 
-pub entering-spec : {M : Type 1} → statement M
-entering-spec = tie.close (tie.spec (search rules) (search rules) (search rules) (search rules) returns (λ c. search rules))
+pub entering_spec : {M : Type 1} → statement M
+entering_spec = tie.close (tie.spec (search rules) (search rules) (search rules) (search rules) returns (λ c. search rules))

@@ -7,24 +7,24 @@ use Rattle.point.proofs.Coordinates.{point-says}
 use Rattle.point.proofs.equality.equality_at_vertex.Statement.{statement}
 use Rattle.point.proofs.equality.equality_at_vertex.Tie as tie
 
-at-row-requires : tie.Need-at-row-requires
+at-row-requires : tie.Need-at_row-requires
 at-row-requires c κs =
-    let h = accepted _ tt c.enum_told.given.1 c.before.before.test-vertex.ensures in
+    let h = accepted _ tt c.in-Accepted.is c.before.test_vertex-tested.ensures in
     search point-says
 
-returns : tie.Need-returns
+returns : tie.Need-returns-in-Refused
 unfolding vertex_answer
-returns c = refused_as _ c.before.tested.given.1 c.before.before.before.test-vertex.ensures
+returns c = refused_as _ c.in-Refused.is c.before.test_vertex-tested.ensures
 
-returns-2 : tie.Need-returns-2
+returns-2 : tie.Need-returns-in-Accepted
 unfolding vertex_answer
 returns-2 c =
     let row = c.before in
     let told = row.before in
-    evaluated_as _ _ told.enum_told.given.1 told.before.before.test-vertex.ensures row.at_row.ensures
+    evaluated_as _ _ told.in-Accepted.is told.before.test_vertex-tested.ensures row.at_row.ensures
     c.value.ensures
 
-pub equality-at-vertex-spec : {M : Type 1} → statement M
-equality-at-vertex-spec =
+pub equality_at_vertex_spec : {M : Type 1} → statement M
+equality_at_vertex_spec =
     tie.close
     (tie.spec (search rules) (λ c. search rules) (λ c. search rules) at-row-requires (search rules) returns returns-2)

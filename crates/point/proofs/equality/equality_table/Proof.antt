@@ -13,24 +13,24 @@ fill-requires : tie.Need-fill-requires
 unfolding table_answer
 fill-requires c κs =
     let told = c.before.before in
-    let h = accepted _ tt told.enum_told.given.1 told.before.before.test_table.ensures in
+    let h = accepted _ tt told.in-Accepted.is told.before.test_table-tested.ensures in
     search point-says
 
-returns : tie.Need-returns
+returns : tie.Need-returns-in-Refused
 unfolding equality_out
-returns c = rw (← answer_as c.before.tested.given.1 c.before.before.before.test_table.ensures, kept) (refl, refl)
+returns c = rw (← answer_as c.in-Refused.is c.before.test_table-tested.ensures, kept) (refl, refl)
 
-returns-2 : tie.Need-returns-2
+returns-2 : tie.Need-returns-in-Accepted
 unfolding equality_out
 returns-2 c =
     let fill = c.before.before in
     let one = fill.before in
     let told = one.before.before in
-    rw (← answer_as told.enum_told.given.1 told.before.before.test_table.ensures)
+    rw (← answer_as told.in-Accepted.is told.before.test_table-tested.ensures)
     (refl, fill.fill.ensures ∙ table_unscaled _ _ _ one.one.ensures)
 
-pub equality-table-spec : {M : Type 1} → statement M
-equality-table-spec =
+pub equality_table_spec : {M : Type 1} → statement M
+equality_table_spec =
     tie.close
     (tie.spec (search rules) (λ c. search rules) (λ c. search rules) (search rules) fill-requires (search rules) returns (search rules)
     returns-2)

@@ -11,10 +11,10 @@ use Rattle.point.proofs.Filling.{Filling, entering_lt, first, put_scale, start, 
 use Rattle.point.proofs.equality.fill.Statement.{statement}
 use Rattle.point.proofs.equality.fill.Tie as tie
 
-abbrev invariant-loop : tie.invariant-loop
+abbrev invariant-loop : tie.invariant-loop-i
 invariant-loop out₀ point k order len₀ i₀ out len i = Filling (element_at out₀ 0) order point k i len out
 
-abbrev decreases-loop : tie.decreases-loop
+abbrev decreases-loop : tie.decreases-loop-i
 decreases-loop out₀ point k order len₀ i₀ out len i = k - i
 
 put-requires : tie.Need-put-requires invariant-loop decreases-loop
@@ -25,52 +25,52 @@ module _ (put : tie.After-put invariant-loop decreases-loop) where
   abbrev begin : tie.Start invariant-loop decreases-loop
   begin = put.before.before.before.before
 
-  scaled : get_at put.put.last.0 0 ≡ begin.args.scale
+  scaled : get_at put.put.new.ws 0 ≡ begin.args.scale
   scaled =
       let z : length begin.args.scale.c ≡ 4 = search rules in
-      put_scale _ _ _ begin.pre.room z put.put.ensures
+      put_scale _ _ _ begin.requires.room z put.put.ensures
 
-loop-holds : tie.Need-loop-init invariant-loop decreases-loop
+loop-holds : tie.Need-loop-i-init invariant-loop decreases-loop
 loop-holds c =
     let put = c.before.before in
-    start _ _ _ _ (put.put.auto.0 ∙ (begin put).requires.room) (rw (scaled put) (begin put).requires.scale_is)
+    start _ _ _ _ (put.put.auto.ws ∙ (begin put).requires.room) (rw (scaled put) (begin put).requires.scale_is)
 
-read-requires : tie.Need-read-requires invariant-loop decreases-loop
+read-requires : tie.Need-read-c-requires invariant-loop decreases-loop
 read-requires c κs =
     let test = c.before in
     let from = begin test.before.before.before.before in (
-      omega (arith, from.pre.point_is.count, c.entering.ensures, entering_lt from.args.order _ _ test.loop-test.true),
-      from.pre.point_is.below,
+      omega (arith, from.requires.point_is.count, c.entering.ensures, entering_lt from.args.order _ _ test.loop-i-test.true),
+      from.requires.point_is.below,
     )
 
 double-requires : tie.Need-double-requires invariant-loop decreases-loop
 double-requires c κs =
     let read = c.before in
     let test = read.before.before in
-    ready _ _ _ _ _ _ _ test.before.loop.invariant test.loop-test.true read.read.ensures.below
+    ready _ _ _ _ _ _ _ test.before.loop-i.invariant test.loop-i-test.true read.read-c.ensures.below
 
-mul-len : tie.Need-overflow-mul-len invariant-loop decreases-loop
+mul-len : tie.Need-overflow_mul-len invariant-loop decreases-loop
 mul-len c =
     let test = c.before.before.before.before.before.before in
     let at = test.before in
     let begin = at.before.before.before.before.before.before in
-    omega (arith, room _ _ _ _ _ _ _ at.loop.invariant test.loop-test.true, at.loop.invariant.size, begin)
+    omega (arith, room _ _ _ _ _ _ _ at.loop-i.invariant test.loop-i-test.true, at.loop-i.invariant.size, begin)
 
-loop-again : tie.Need-loop-preserved invariant-loop decreases-loop
+loop-again : tie.Need-loop-i-preserved invariant-loop decreases-loop
 loop-again c =
     let double = c.before.before in
     let read = double.before.before in
     let entering = read.before in
     let test = entering.before in
-    turn _ _ _ _ _ _ _ test.before.loop.invariant test.loop-test.true _
-    (rw (read_as _ read.read.ensures, entering.entering.ensures) at double.double.ensures)
+    turn _ _ _ _ _ _ _ test.before.loop-i.invariant test.loop-i-test.true _
+    (rw (read_as _ read.read-c.ensures, entering.entering.ensures) at double.double.ensures)
 
 returns : tie.Need-returns invariant-loop decreases-loop
 returns c =
     let at = c.before in
     let put = at.before.before.before in
-    let q : at.loop.i ≡ (begin put).args.k = omega arith in
-    rw (scaled put) at (finish _ _ _ _ _ _ _ at.loop.invariant q)
+    let q : at.loop-i.i ≡ (begin put).args.k = omega arith in
+    rw (scaled put) at (finish _ _ _ _ _ _ _ at.loop-i.invariant q)
 
 pub fill_spec : {M : Type 1} → statement M
 fill_spec =

@@ -30,6 +30,6 @@ returns c =
     let args = fill.before.before.before.before.before.args in
     rw (rest_elements args.high args.point.now args.low) at fill.fill.ensures
 
-pub fill-last-spec : {M : Type 1} → statement M
-fill-last-spec =
+pub fill_last_spec : {M : Type 1} → statement M
+fill_last_spec =
     tie.close (tie.spec (search rules) (search rules) (search rules) (search rules) (search rules) fill-requires (search rules) returns)

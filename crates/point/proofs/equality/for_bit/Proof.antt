@@ -19,11 +19,11 @@ for-one : (b : ℕ) (c : Element) → (b ≡ 0 → ⊥) → length c.c ≡ 4 →
 for-one zero c h l q = absurd (h refl)
 for-one (suc b) c h l q = holds_again c l q
 
-returns : tie.Need-returns
-returns c = for-zero _ _ _ c.before.before.if1.true c.before.one.ensures c.sub.ensures
+returns : tie.Need-returns-then-bit-eq0
+returns c = for-zero _ _ _ c.before.before.if-bit-eq0.true c.before.one.ensures c.sub.ensures
 
-returns-2 : tie.Need-returns-2
-returns-2 c = for-one _ _ c.if1.false (search rules) c.before.requires
+returns-2 : tie.Need-returns
+returns-2 c = for-one _ _ c.if-bit-eq0.false (search rules) c.before.requires
 
-pub for-bit-spec : {M : Type 1} → statement M
-for-bit-spec = tie.close (tie.spec (search rules) (λ c κs. search rules) returns returns-2)
+pub for_bit_spec : {M : Type 1} → statement M
+for_bit_spec = tie.close (tie.spec (search rules) (λ c κs. search rules) returns returns-2)

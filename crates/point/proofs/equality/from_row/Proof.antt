@@ -25,28 +25,28 @@ as-tail ps k row e h v =
     let b : row < 2 ^ length (elements ps 0 k) = rw (elements_length ps 0 k) h in
     rw (tail_by_lem field_ring (elements ps 0 k) row b) at v
 
-abbrev invariant-loop : tie.invariant-loop
+abbrev invariant-loop : tie.invariant-loop-j
 invariant-loop point k row sum₀ left₀ j₀ sum left j = Climbing (tail_by field) point k row left j sum
 
-abbrev decreases-loop : tie.decreases-loop
+abbrev decreases-loop : tie.decreases-loop-j
 decreases-loop point k row sum₀ left₀ j₀ sum left j = j
 
-loop-holds : tie.Need-loop-init invariant-loop decreases-loop
-loop-holds c = start tail_climbs _ _ _ _ c.one.ensures
+loop-holds : tie.Need-loop-j-init invariant-loop decreases-loop
+loop-holds c = start tail_climbs _ _ _ _ c.one-sum.ensures
 
-loop-again : tie.Need-loop-preserved invariant-loop decreases-loop
+loop-again : tie.Need-loop-j-preserved invariant-loop decreases-loop
 loop-again c =
     let read = c.before in
     let test = read.before in
-    turn tail_climbs _ _ _ _ _ _ test.before.loop.invariant test.loop-test.true _ read.read.ensures c.tail_step_lem.ensures
+    turn tail_climbs _ _ _ _ _ _ test.before.loop-j.invariant test.loop-j-test.true _ read.read-c.ensures c.tail_step-sum.ensures
 
 returns : tie.Need-returns invariant-loop decreases-loop
 returns c =
-    let q : c.before.loop.j ≡ 0 = omega arith in
-    as-tail _ _ _ _ c.before.before.before.before.requires.1 (finish tail_climbs _ _ _ _ _ _ c.before.loop.invariant q)
+    let q : c.before.loop-j.j ≡ 0 = omega arith in
+    as-tail _ _ _ _ c.before.before.before.before.requires.1 (finish tail_climbs _ _ _ _ _ _ c.before.loop-j.invariant q)
 
-pub from-row-spec : {M : Type 1} → statement M
-from-row-spec =
+pub from_row_spec : {M : Type 1} → statement M
+from_row_spec =
     tie.close
     (tie.spec
     invariant-loop

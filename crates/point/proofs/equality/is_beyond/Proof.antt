@@ -10,14 +10,14 @@ use lib.Pow.{shl_exact, pow_mono}
 use Rattle.point.proofs.equality.is_beyond.Statement.{statement}
 use Rattle.point.proofs.equality.is_beyond.Tie as tie
 
-returns : tie.Need-returns
+returns : tie.Need-returns-then-k-gt63
 returns c =
-    let many : 2 ^ 64 ≤ 2 ^ c.before.args.k = pow_mono c.if1.true in
+    let many : 2 ^ 64 ≤ 2 ^ c.before.args.k = pow_mono c.if-k-gt63.true in
     sym (lt-leb (2 ^ c.before.args.k) c.before.args.vertex (omega arith))
 
-returns-2 : tie.Need-returns-2
+returns-2 : tie.Need-returns
 returns-2 c =
     ap (λ n. leb n c.before.args.vertex) (shl_exact {a = 1} 1 c.before.args.k 64 (omega arith) (omega arith) ∙ one-mul _)
 
-pub is-beyond-spec : {M : Type 1} → statement M
-is-beyond-spec = tie.close (tie.spec returns (search rules) returns-2)
+pub is_beyond_spec : {M : Type 1} → statement M
+is_beyond_spec = tie.close (tie.spec returns (search rules) returns-2)

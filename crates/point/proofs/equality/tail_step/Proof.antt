@@ -20,18 +20,18 @@ for-one : (b : ℕ) (c s : Element) {r : Element} → (b ≡ 0 → ⊥) → Hold
 for-one zero c s h e = absurd (h refl)
 for-one (suc b) c s h e = e
 
-returns : tie.Need-returns
+returns : tie.Need-returns-then-bit-eq0
 returns c =
     let part = c.before in
     let rest = part.before in
     let one = rest.before in
-    for-zero _ _ _ _ _ _ one.before.if1.true one.one.ensures rest.sub.ensures part.mul.ensures c.add.ensures
+    for-zero _ _ _ _ _ _ one.before.if-bit-eq0.true one.one.ensures rest.sub.ensures part.mul.ensures c.add.ensures
 
-returns-2 : tie.Need-returns-2
-returns-2 c = for-one _ _ _ c.before.if1.false c.mul2.ensures
+returns-2 : tie.Need-returns
+returns-2 c = for-one _ _ _ c.before.if-bit-eq0.false c.mul-2.ensures
 
-pub tail-step-spec : {M : Type 1} → statement M
-tail-step-spec =
+pub tail_step_spec : {M : Type 1} → statement M
+tail_step_spec =
     tie.close
     (tie.spec
     (search rules)

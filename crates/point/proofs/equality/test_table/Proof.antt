@@ -14,20 +14,20 @@ returns c =
     let first = second.before.before in
     gone_through _ tt
     (rw (
-      c.refuse-if5.ensures,
+      c.refuse_if-5.ensures,
       c.before.unreduced.ensures,
-      out.refuse-if4.ensures,
-      out.before.rows-differ.ensures,
-      many.refuse-if3.ensures,
+      out.refuse_if-4.ensures,
+      out.before.rows_differ.ensures,
+      many.refuse_if-3.ensures,
       many.before.too_many.ensures,
-      second.refuse-if2.ensures,
-      second.before.splits2.ensures,
-      first.refuse-if.ensures,
+      second.refuse_if-2.ensures,
+      second.before.splits-2.ensures,
+      first.refuse_if.ensures,
       first.before.splits.ensures,
     ))
 
-pub test-table-spec : {M : Type 1} → statement M
-test-table-spec =
+pub test_table_spec : {M : Type 1} → statement M
+test_table_spec =
     tie.close
     (tie.spec (search rules) (search rules) (search rules) (search rules) (search rules) (search rules) (search rules)
     (search rules) (search rules) (search rules) returns)

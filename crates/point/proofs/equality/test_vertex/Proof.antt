@@ -11,14 +11,14 @@ returns c =
     let whole = few.before.before in
     gone_through _ tt
     (rw (
-      by_test _ _ c.refuse-if4.ensures c.before.is-beyond.ensures,
-      by_test _ _ reduced.refuse-if3.ensures reduced.before.unreduced.ensures,
-      by_test _ _ few.refuse-if2.ensures few.before.too_many.ensures,
-      by_test _ _ whole.refuse-if.ensures whole.before.splits.ensures,
+      by_test _ _ c.refuse_if-4.ensures c.before.is_beyond.ensures,
+      by_test _ _ reduced.refuse_if-3.ensures reduced.before.unreduced.ensures,
+      by_test _ _ few.refuse_if-2.ensures few.before.too_many.ensures,
+      by_test _ _ whole.refuse_if.ensures whole.before.splits.ensures,
     ))
 
-pub test-vertex-spec : {M : Type 1} → statement M
-test-vertex-spec =
+pub test_vertex_spec : {M : Type 1} → statement M
+test_vertex_spec =
     tie.close
     (tie.spec (search rules) (search rules) (search rules) (search rules) (search rules) (search rules) (search rules)
     (search rules) returns)

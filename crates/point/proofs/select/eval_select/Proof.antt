@@ -9,21 +9,21 @@ use Rattle.point.proofs.select.eval_select.Tie as tie
 
 selection-requires : tie.Need-selection-requires
 selection-requires c κs =
-    let h = accepted _ tt c.enum_told.given.1 c.before.before.test-select.ensures in
+    let h = accepted _ tt c.in-Accepted.is c.before.test_select-tested.ensures in
     search point-says
 
-returns : tie.Need-returns
+returns : tie.Need-returns-in-Refused
 unfolding eval_select_answer
-returns c = refused_as _ c.before.tested.given.1 c.before.before.before.test-select.ensures
+returns c = refused_as _ c.in-Refused.is c.before.test_select-tested.ensures
 
-returns-2 : tie.Need-returns-2
+returns-2 : tie.Need-returns-in-Accepted
 unfolding eval_select_answer
 returns-2 c =
     let told = c.before.before in
-    evaluated_as _ _ told.enum_told.given.1 told.before.before.test-select.ensures c.before.selection.ensures
+    evaluated_as _ _ told.in-Accepted.is told.before.test_select-tested.ensures c.before.selection.ensures
     c.value.ensures
 
-pub eval-select-spec : {M : Type 1} → statement M
-eval-select-spec =
+pub eval_select_spec : {M : Type 1} → statement M
+eval_select_spec =
     tie.close
     (tie.spec (search rules) (λ c. search rules) (λ c. search rules) selection-requires (search rules) returns returns-2)

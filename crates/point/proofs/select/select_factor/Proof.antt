@@ -11,10 +11,10 @@ returns c =
     let sub = one.before in
     rw (
       read_as _ sub.sub.ensures,
-      read_as _ sub.before.mul-base.ensures,
+      read_as _ sub.before.mul_base.ensures,
       read_as _ one.one.ensures,
       select_factor_law,
     ) at c.add.ensures
 
-pub select-factor-spec : {M : Type 1} → statement M
-select-factor-spec = tie.close (tie.spec (λ c κs. search rules) (λ c κs. search rules) (search rules) (λ c κs. search rules) returns)
+pub select_factor_spec : {M : Type 1} → statement M
+select_factor_spec = tie.close (tie.spec (λ c κs. search rules) (λ c κs. search rules) (search rules) (λ c κs. search rules) returns)

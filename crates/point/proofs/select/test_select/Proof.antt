@@ -11,16 +11,16 @@ returns c =
     let whole = many.before.before in
     gone_through _ tt
     (rw (
-      c.refuse-if4.ensures,
-      point.refuse-if3.ensures,
+      c.refuse_if-4.ensures,
+      point.refuse_if-3.ensures,
       point.before.unreduced.ensures,
-      many.refuse-if2.ensures,
+      many.refuse_if-2.ensures,
       many.before.too_many.ensures,
-      whole.refuse-if.ensures,
+      whole.refuse_if.ensures,
       whole.before.splits.ensures,
     ))
 
-pub test-select-spec : {M : Type 1} → statement M
-test-select-spec =
+pub test_select_spec : {M : Type 1} → statement M
+test_select_spec =
     tie.close
     (tie.spec (search rules) (search rules) (search rules) (search rules) (search rules) (search rules) (search rules) returns)
