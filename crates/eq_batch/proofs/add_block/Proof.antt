@@ -15,13 +15,13 @@ add-table-requires : tie.Need-add-table-requires
 add-table-requires c κs =
     let block = c.before.before in
     let rows = block.before in
-    (filled _ block.Block-of.ensures rows.rows.ensures, rw rows.rows.ensures (begin rows).requires.1.1)
+    (filled _ block.block-of.ensures rows.rows.ensures, rw rows.rows.ensures (begin rows).requires.1.1)
 
 returns : tie.Need-returns
 returns c =
     let add = c.before.before in
     let block = add.before.before.before in
-    block_gained _ block.Block-of.ensures block.before.rows.ensures add.add-table.ensures
+    block_gained _ block.block-of.ensures block.before.rows.ensures add.add-table.ensures
 
 pub add-block-spec : {M : Type 1} → statement M
 add-block-spec =

@@ -17,7 +17,7 @@ returns c =
     let pre = (begin rows).requires in
     unpadded args.plan args.taken args.last.now
     (row_short args.plan args.taken pre.1 (rw rows.rows.ensures at c.if1.true)) pre.0.room
-    pre.0.out_Below
+    pre.0.out_below
 
 div_row : tie.Need-nonzero-div-row
 div_row c = omega (arith, some (begin c.before).pre.0 c.before.rows.ensures)

@@ -96,7 +96,7 @@ module _ (t : ℕ) where
       let gained = c.before.before in
       let whole = gained.before.before in
       let two = whole.before in
-      rows_scattered (begin two.before).pre.1 2 two.if3.true (eqb-true _ _ whole.if4.true) gained.four_rows_lem.ensures (λ y h. refl)
+      rows_scattered (begin two.before).pre.1 2 two.if3.true (eqb-true _ _ whole.if4.true) gained.four_rows.ensures (λ y h. refl)
 
   block-rows-requires : scatter-lts.Need-block-rows-requires (calls t) (scatter-at t) scatter.Post
   block-rows-requires c κs =

@@ -15,12 +15,12 @@ halves-ext-requires c κs =
     let block = c.before in
     let pre = block.before.before.before.before.requires in
     let low = block.before.lowest.ensures in
-    element_parts low.0 block.Block-of.ensures low.1 pre.0.0 pre.1
+    element_parts low.0 block.block-of.ensures low.1 pre.0.0 pre.1
 
 returns : tie.Need-returns
 returns c =
     let block = c.before.before in
-    weighed_elements block.before.lowest.ensures.0 block.Block-of.ensures _ c.halves-ext.ensures
+    weighed_elements block.before.lowest.ensures.0 block.block-of.ensures _ c.halves-ext.ensures
 
 pub weigh-ext-spec : {M : Type 1} → statement M
 weigh-ext-spec =

@@ -48,7 +48,7 @@ plus-requires c κs =
     let test = read.before in (
       (new test).new.ensures.1,
       read.read.ensures.below,
-      rw c.get.ensures (reduced_at _ (test.before.loop.invariant.1.below (begin test).requires.0.out_Below) _),
+      rw c.get.ensures (reduced_at _ (test.before.loop.invariant.1.below (begin test).requires.0.out_below) _),
     )
 
 -- the place is written as it was read

@@ -68,7 +68,7 @@ add-places-requires-2 c κs =
         low_fits = v.0;
         enough = v.1;
         small = v.2;
-        block_is = block.Block-of.ensures;
+        block_is = block.block-of.ensures;
       },
       pos_of_ne-zero (long low).before.if1.false,
     )

@@ -112,7 +112,7 @@ add-row-spec =
     (λ c. omega (arith, there c.before.before.before))
     (λ c κs.
     let test = c.before.before.before.before.before in
-    (room test, (at test).loop.invariant.gained.below (begin (reach test)).pre.0.out_Below))
+    (room test, (at test).loop.invariant.gained.below (begin (reach test)).pre.0.out_below))
     (λ c κs. (search rules, below p _ (begin (reach c.before.before.before.before.before.before)).pre.0.piece_below p_pos _))
     (λ c κs. search rules)
     (λ c κs. room c.before.before.before.before.before.before.before.before)

@@ -103,7 +103,7 @@ returns-4 t c =
     let at0 = at1.before.before in
     let rows = at0.before.before in
     words_joined (more t rows) rows.rows.ensures _ _ (begin t rows).requires.1.1 at0.halves.ensures at1.halves2.ensures
-    c.line_at_lem.ensures
+    c.line_at.ensures
 
 pub +halves-spec : {M : Type 1} → statement M
 +halves-spec =

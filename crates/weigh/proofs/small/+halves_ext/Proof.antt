@@ -96,7 +96,7 @@ returns-2 : (t : ℕ) → halves-ext-lts.Need-returns-2 (calls t) (halves-ext-at
 returns-2 t c =
     let second = c.before in
     let first = second.before in
-    pair_joined _ _ first.before.if2.true _ first.read2.ensures second.read3.ensures c.line_at_lem.ensures
+    pair_joined _ _ first.before.if2.true _ first.read2.ensures second.read3.ensures c.line_at.ensures
 
 returns-3 : (t : ℕ) → halves-ext-lts.Need-returns-3 (calls t) (halves-ext-at t) halves-ext.Post
 returns-3 t c =

@@ -35,7 +35,7 @@ returns : tie.Need-returns
 returns c =
     let at1 = c.before in
     let at0 = at1.before.before in
-    words_joined refl refl _ _ (begin at0.before).pre.1 at0.pair.ensures at1.pair2.ensures c.line_at_lem.ensures
+    words_joined refl refl _ _ (begin at0.before).pre.1 at0.pair.ensures at1.pair2.ensures c.line_at.ensures
 
 pub two-pairs-spec : {M : Type 1} → statement M
 two-pairs-spec =
