@@ -2,11 +2,11 @@
 use Rattle.fixing.proofs.answer.Statement.{statement}
 use Rattle.fixing.proofs.answer.Tie as tie
 
-returns : tie.Need-returns
-returns c = rw c.if1.true
+returns : tie.Need-returns-then-unreduced
+returns c = rw c.if-unreduced.true
 
-returns-2 : tie.Need-returns-2
-returns-2 c = rw c.if1.false
+returns-2 : tie.Need-returns-else-unreduced
+returns-2 c = rw c.if-unreduced.false
 
-pub answer-spec : {M : Type 1} → statement M
-answer-spec = tie.close (tie.spec returns returns-2)
+pub answer_spec : {M : Type 1} → statement M
+answer_spec = tie.close (tie.spec returns returns-2)

@@ -14,22 +14,22 @@ use Rattle.fixing.proofs.fix.Tie as tie
 halve-requires : tie.Need-halve-requires
 halve-requires c κs =
     let told = c.before in
-    let fits : length told.before.before.before.before.before.args.entries.now < 2 ^ 64 = omega arith in
-    let h = accepted _ tt told.enum_told.given.1 told.before.before.test-fix.ensures in
+    let fits : length told.before.before.before.args.entries.now < 2 ^ 64 = omega arith in
+    let h = accepted _ tt told.in-Accepted.is told.before.test_fix-tested.ensures in
     search (says, two_halves)
 
-returns : tie.Need-returns
+returns : tie.Need-returns-in-Refused
 unfolding fix_answer fix_out
-returns c = rw (← answer_as c.before.tested.given.1 c.before.before.before.test-fix.ensures, kept, kept) (refl, refl)
+returns c = rw (← answer_as c.in-Refused.is c.before.test_fix-tested.ensures, kept, kept) (refl, refl)
 
-returns-2 : tie.Need-returns-2
+returns-2 : tie.Need-returns-in-Accepted
 unfolding fix_answer fix_out
 returns-2 c =
     let halve = c.before.before in
     let told = halve.before.before in
-    rw (← answer_as told.enum_told.given.1 told.before.before.test-fix.ensures) (refl, halve.halve.ensures)
+    rw (← answer_as told.in-Accepted.is told.before.test_fix-tested.ensures) (refl, halve.halve.ensures)
 
-pub fix-spec : {M : Type 1} → statement M
-fix-spec =
+pub fix_spec : {M : Type 1} → statement M
+fix_spec =
     tie.close
     (tie.spec (search rules) (λ c. search rules) (λ c. search rules) halve-requires (search rules) returns (search rules) returns-2)

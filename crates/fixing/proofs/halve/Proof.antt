@@ -6,31 +6,31 @@ use Rattle.fixing.proofs.Halving.{all_pairs}
 use Rattle.fixing.proofs.halve.Statement.{statement}
 use Rattle.fixing.proofs.halve.Tie as tie
 
-add-part-requires : tie.Need-add-part-requires
-add-part-requires c κs = all_pairs _ _ c.before.before.before.before.requires.0
+add-part-requires : tie.Need-add_part-requires
+add-part-requires c κs = all_pairs _ _ c.before.before.before.requires.0
 
-returns : tie.Need-returns
+returns : tie.Need-returns-in-Prefix
 returns c =
     let halve = c.before.before in
-    rw halve.before.before.enum_told.given.1 halve.halve-prefix.ensures
+    rw halve.before.before.in-Prefix.is halve.halve_prefix.ensures
 
-returns-2 : tie.Need-returns-2
+returns-2 : tie.Need-returns-in-Suffix
 returns-2 c =
     let halve = c.before.before in
-    rw halve.before.before.enum-told2.given.1 halve.halve-suffix.ensures
+    rw halve.before.before.in-Suffix.is halve.halve_suffix.ensures
 
-returns-3 : tie.Need-returns-3
+returns-3 : tie.Need-returns-in-Sum
 returns-3 c =
     let halve = c.before.before in
-    rw halve.before.before.enum-told3.given.1 (made_table _ _ _ _ halve.add-part.ensures (omega arith))
+    rw halve.before.before.in-Sum.is (made_table _ _ _ _ halve.add_part.ensures (omega arith))
 
-returns-4 : tie.Need-returns-4
+returns-4 : tie.Need-returns-in-Monomial
 returns-4 c =
     let halve = c.before.before in
-    rw halve.before.before.enum-told4.given.1 halve.halve-monomial.ensures
+    rw halve.before.before.in-Monomial.is halve.halve_monomial.ensures
 
-pub halve-spec : {M : Type 1} → statement M
-halve-spec =
+pub halve_spec : {M : Type 1} → statement M
+halve_spec =
     tie.close
     (tie.spec
     (search rules)

@@ -9,46 +9,46 @@ use Rattle.fixing.proofs.Halving.{Halving, start, reads, turn, finish}
 use Rattle.fixing.proofs.halve_suffix.Statement.{statement}
 use Rattle.fixing.proofs.halve_suffix.Tie as tie
 
-abbrev invariant-loop : tie.invariant-loop
+abbrev invariant-loop : tie.invariant-loop-i
 invariant-loop entries₀ h m i₀ entries i = Halving Suffix h i (from_words m.r) entries₀ entries
 
-abbrev decreases-loop : tie.decreases-loop
+abbrev decreases-loop : tie.decreases-loop-i
 decreases-loop entries₀ h m i₀ entries i = h - i
 
-loop-holds : tie.Need-loop-init invariant-loop decreases-loop
+loop-holds : tie.Need-loop-i-init invariant-loop decreases-loop
 loop-holds c = start _ _ _ _
 
-abbrev begin : tie.In-loop invariant-loop decreases-loop → tie.Start invariant-loop decreases-loop
+abbrev begin : tie.In-loop-i invariant-loop decreases-loop → tie.Start invariant-loop decreases-loop
 begin test = test.before.before.before.before
 
-line-suffix-requires : tie.Need-line-suffix-requires invariant-loop decreases-loop
+line-suffix-requires : tie.Need-line_suffix-requires invariant-loop decreases-loop
 line-suffix-requires c κs =
-    let get = c.before.before.before in
-    let test = get.before.before in (
-      reads _ _ _ _ _ _ test.before.loop.invariant (begin test).requires.0.below get.get.ensures c.before.get2.ensures,
-      test.before.before.new.ensures.1,
+    let get = c.before.before in
+    let test = get.before in (
+      reads _ _ _ _ _ _ test.before.loop-i.invariant (begin test).requires.0.below get.get-a0.ensures c.before.get-a1.ensures,
+      test.before.before.new-m.ensures.1,
     )
 
-loop-again : tie.Need-loop-preserved invariant-loop decreases-loop
+loop-again : tie.Need-loop-i-preserved invariant-loop decreases-loop
 loop-again c =
     let put = c.before.before in
     let line = put.before in
     let get2 = line.before.before in
-    let get = get2.before.before in
-    let test = get.before.before in
-    turn _ _ _ _ _ _ test.before.loop.invariant test.loop-test.true (begin test).requires.0.table.count get.get.ensures
-    get2.get2.ensures line.line-suffix.ensures put.put.ensures
+    let get = get2.before in
+    let test = get.before in
+    turn _ _ _ _ _ _ test.before.loop-i.invariant test.loop-i-test.true (begin test).requires.0.table.count get.get-a0.ensures
+    get2.get-a1.ensures line.line_suffix.ensures put.put.ensures
 
 returns : tie.Need-returns invariant-loop decreases-loop
 returns c =
     let at = c.before in
     let new = at.before in
     let begin = new.before.before in
-    let q : at.loop.i ≡ begin.args.h = omega arith in
-    rw new.new.ensures.0 at (finish _ _ _ _ _ _ at.loop.invariant q begin.requires.0.table.count)
+    let q : at.loop-i.i ≡ begin.args.h = omega arith in
+    rw new.new-m.ensures.0 at (finish _ _ _ _ _ _ at.loop-i.invariant q begin.requires.0.table.count)
 
-pub halve-suffix-spec : {M : Type 1} → statement M
-halve-suffix-spec =
+pub halve_suffix_spec : {M : Type 1} → statement M
+halve_suffix_spec =
     tie.close
     (tie.spec
     invariant-loop

@@ -12,8 +12,8 @@ returns c =
     let q : 4 * a.from + 4 * a.n - 4 * a.from ≡ 4 * a.n = omega arith in
     rw q at c.unreduced.ensures
 
-pub is-part-unreduced-spec : {M : Type 1} → statement M
-is-part-unreduced-spec =
+pub is_part_unreduced_spec : {M : Type 1} → statement M
+is_part_unreduced_spec =
     tie.close
     (tie.spec
     (search rules)

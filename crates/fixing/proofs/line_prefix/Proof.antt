@@ -11,12 +11,12 @@ returns c =
     let c1 = c2.before in
     let c0 = c1.before in
     rw (
-      read_as _ (four_words_lem _ c0.coordinate-0.ensures c1.coordinate-1.ensures c2.coordinate-2.ensures c3.coordinate-3.ensures),
-      read_as _ c0.before.sub.ensures,
+      read_as _ (four_words_lem _ c0.coordinate_0.ensures c1.coordinate_1.ensures c2.coordinate_2.ensures c3.coordinate_3.ensures),
+      read_as _ c0.before.sub-d.ensures,
     ) at c.add.ensures
 
-pub line-prefix-spec : {M : Type 1} → statement M
-line-prefix-spec =
+pub line_prefix_spec : {M : Type 1} → statement M
+line_prefix_spec =
     tie.close
     (tie.spec
     (λ c κs. search rules)

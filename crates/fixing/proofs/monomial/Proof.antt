@@ -10,11 +10,11 @@ returns c =
     let c2 = c3.before in
     let c1 = c2.before in
     let c0 = c1.before in
-    rw (read_as _ (four_words_lem _ c0.coordinate-0.ensures c1.coordinate-1.ensures c2.coordinate-2.ensures c3.coordinate-3.ensures))
+    rw (read_as _ (four_words_lem _ c0.coordinate_0.ensures c1.coordinate_1.ensures c2.coordinate_2.ensures c3.coordinate_3.ensures))
     at c.add.ensures
 
-pub monomial-spec : {M : Type 1} → statement M
-monomial-spec =
+pub monomial_spec : {M : Type 1} → statement M
+monomial_spec =
     tie.close
     (tie.spec
     (λ c κs. search rules)

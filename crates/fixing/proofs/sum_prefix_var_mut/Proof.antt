@@ -5,16 +5,16 @@ use Rattle.table.proofs.Answers.{answer_as}
 use Rattle.fixing.proofs.sum_prefix_var_mut.Statement.{statement}
 use Rattle.fixing.proofs.sum_prefix_var_mut.Tie as tie
 
-sum-sized-requires : tie.Need-sum-sized-requires
+sum-sized-requires : tie.Need-sum_sized-requires
 sum-sized-requires c κs =
     let told = c.before in
-    record { accepted = answer_as told.enum_told.given.1 told.before.before.test-sizes.ensures }
+    record { accepted = answer_as told.in-Accepted.is told.before.test_sizes-tested.ensures }
 
-returns : tie.Need-returns
-returns c = sum_refused _ c.before.tested.given.1 c.before.before.before.test-sizes.ensures
+returns : tie.Need-returns-in-Refused
+returns c = sum_refused _ c.in-Refused.is c.before.test_sizes-tested.ensures
 
-pub sum-prefix-var-mut-spec : {M : Type 1} → statement M
-sum-prefix-var-mut-spec =
+pub sum_prefix_var_mut_spec : {M : Type 1} → statement M
+sum_prefix_var_mut_spec =
     tie.close
     (tie.spec
     (search rules)
@@ -24,4 +24,4 @@ sum-prefix-var-mut-spec =
     (search rules)
     returns
     (search rules)
-    (λ c. c.before.before.sum-sized.ensures))
+    (λ c. c.before.before.sum_sized.ensures))

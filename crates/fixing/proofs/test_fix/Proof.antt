@@ -13,16 +13,16 @@ returns c =
     let whole = power.before.before in
     gone_through _ tt
     (rw (
-      c.refuse-if6.ensures,
-      by_test _ _ below.refuse-if5.ensures below.before.unreduced2.ensures,
-      by_test _ _ reduced.refuse-if4.ensures reduced.before.unreduced.ensures,
-      by_test _ _ few.refuse-if3.ensures few.before.too-many-variables.ensures,
-      by_test _ _ power.refuse-if2.ensures power.before.not-power.ensures,
-      by_test _ _ whole.refuse-if.ensures whole.before.splits.ensures,
+      c.refuse_if-6.ensures,
+      by_test _ _ below.refuse_if-5.ensures below.before.unreduced-2.ensures,
+      by_test _ _ reduced.refuse_if-4.ensures reduced.before.unreduced.ensures,
+      by_test _ _ few.refuse_if-3.ensures few.before.too_many_variables.ensures,
+      by_test _ _ power.refuse_if-2.ensures power.before.not_power.ensures,
+      by_test _ _ whole.refuse_if.ensures whole.before.splits.ensures,
     ))
 
-pub test-fix-spec : {M : Type 1} → statement M
-test-fix-spec =
+pub test_fix_spec : {M : Type 1} → statement M
+test_fix_spec =
     tie.close
     (tie.spec (search rules) (search rules) (search rules) (search rules) (search rules) (search rules) (search rules)
     (search rules) (λ c. search rules) (search rules) (search rules) (search rules) returns)

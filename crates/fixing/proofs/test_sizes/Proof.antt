@@ -10,15 +10,15 @@ returns c =
     let whole = power.before.before in
     gone_through _ tt
     (rw (
-      c.refuse-if3.ensures,
-      c.before.too-many-variables.ensures,
-      power.refuse-if2.ensures,
-      power.before.not-power.ensures,
-      whole.refuse-if.ensures,
+      c.refuse_if-3.ensures,
+      c.before.too_many_variables.ensures,
+      power.refuse_if-2.ensures,
+      power.before.not_power.ensures,
+      whole.refuse_if.ensures,
       whole.before.splits.ensures,
     ))
 
-pub test-sizes-spec : {M : Type 1} → statement M
-test-sizes-spec =
+pub test_sizes_spec : {M : Type 1} → statement M
+test_sizes_spec =
     tie.close
     (tie.spec (search rules) (search rules) (search rules) (search rules) (search rules) (search rules) returns)

@@ -11,15 +11,15 @@ returns c =
     let sub = sub2.before in
     let double = sub.before in
     rw (
-      read_as _ sub2.sub2.ensures,
+      read_as _ sub2.sub-2.ensures,
       read_as _ sub.sub.ensures,
       read_as _ double.double.ensures,
       read_as _ double.before.requires.product,
       read_as _ one.one.ensures,
     ) at c.add.ensures
 
-pub agree-spec : {M : Type 1} → statement M
-agree-spec =
+pub agree_spec : {M : Type 1} → statement M
+agree_spec =
     tie.close
     (tie.spec
     (λ c κs. search rules)

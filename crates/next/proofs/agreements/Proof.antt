@@ -6,31 +6,31 @@ use Rattle.next.proofs.Pairs.{Agreed, agreed_start, agreed_turn, agreed_finish}
 use Rattle.next.proofs.agreements.Statement.{statement}
 use Rattle.next.proofs.agreements.Tie as tie
 
-abbrev invariant-loop : tie.invariant-loop
+abbrev invariant-loop : tie.invariant-loop-j
 invariant-loop point other k product₀ j₀ product j = Agreed point other k j product
 
-abbrev decreases-loop : tie.decreases-loop
+abbrev decreases-loop : tie.decreases-loop-j
 decreases-loop point other k product₀ j₀ product j = j
 
-loop-holds : tie.Need-loop-init invariant-loop decreases-loop
-loop-holds c = agreed_start _ _ _ c.one.ensures
+loop-holds : tie.Need-loop-j-init invariant-loop decreases-loop
+loop-holds c = agreed_start _ _ _ c.one-product.ensures
 
-loop-again : tie.Need-loop-preserved invariant-loop decreases-loop
+loop-again : tie.Need-loop-j-preserved invariant-loop decreases-loop
 loop-again c =
     let agree = c.before in
     let read2 = agree.before.before in
     let read = read2.before in
     let test = read.before in
-    agreed_turn _ _ _ _ test.loop-test.true read.read.ensures read2.read2.ensures test.before.loop.invariant
-    agree.agree.ensures c.mul2.ensures
+    agreed_turn _ _ _ _ test.loop-j-test.true read.read-s.ensures read2.read-t.ensures test.before.loop-j.invariant
+    agree.agree.ensures c.mul-product.ensures
 
 returns : tie.Need-returns invariant-loop decreases-loop
 returns c =
-    let z : c.before.loop.j ≡ 0 = omega arith in
-    agreed_finish _ _ _ _ z c.before.loop.invariant
+    let z : c.before.loop-j.j ≡ 0 = omega arith in
+    agreed_finish _ _ _ _ z c.before.loop-j.invariant
 
-pub agreements-spec : {M : Type 1} → statement M
-agreements-spec =
+pub agreements_spec : {M : Type 1} → statement M
+agreements_spec =
     tie.close
     (tie.spec
     invariant-loop

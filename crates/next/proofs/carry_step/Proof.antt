@@ -7,5 +7,5 @@ use Rattle.next.proofs.carry_step.Tie as tie
 returns : tie.Need-returns
 returns c = rw (read_as _ c.before.sub.ensures) at c.mul.ensures
 
-pub carry-step-spec : {M : Type 1} → statement M
-carry-step-spec = tie.close (tie.spec (λ c κs. search rules) (λ c κs. search rules) returns)
+pub carry_step_spec : {M : Type 1} → statement M
+carry_step_spec = tie.close (tie.spec (λ c κs. search rules) (λ c κs. search rules) returns)

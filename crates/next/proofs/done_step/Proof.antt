@@ -11,16 +11,16 @@ returns c =
     let sub = mul2.before in
     let mul = sub.before in
     rw (
-      read_as _ mul.mul.ensures,
+      read_as _ mul.mul-kept.ensures,
       read_as _ mul.before.agree.ensures,
-      read_as _ mul2.mul2.ensures,
+      read_as _ mul2.mul.ensures,
       read_as _ sub.sub.ensures,
       read_as _ mul.before.before.requires.0.product,
       settled_by _ _ _,
     ) at c.add.ensures
 
-pub done-step-spec : {M : Type 1} → statement M
-done-step-spec =
+pub done_step_spec : {M : Type 1} → statement M
+done_step_spec =
     tie.close
     (tie.spec
     (λ c κs. search rules)

@@ -14,24 +14,24 @@ use Rattle.next.proofs.eval_eq.Tie as tie
 
 agreements-requires : tie.Need-agreements-requires
 agreements-requires c κs =
-    let h = accepted _ tt c.enum_told.given.1 c.before.before.test-pair.ensures in
+    let h = accepted _ tt c.in-Accepted.is c.before.test_pair-tested.ensures in
     search point-says
 
-returns : tie.Need-returns
+returns : tie.Need-returns-in-Refused
 unfolding eval_eq_answer
-returns c = refused_as _ c.before.tested.given.1 c.before.before.before.test-pair.ensures
+returns c = refused_as _ c.in-Refused.is c.before.test_pair-tested.ensures
 
-returns-2 : tie.Need-returns-2
+returns-2 : tie.Need-returns-in-Accepted
 unfolding eval_eq_answer
 returns-2 c =
     let told = c.before.before in
-    let of = told.before.before.before.before.before.args in
-    let h = accepted _ tt told.enum_told.given.1 told.before.before.test-pair.ensures in
+    let of = told.before.before.before.before.args in
+    let h = accepted _ tt told.in-Accepted.is told.before.test_pair-tested.ensures in
     let q : entries of.point.now ≡ entries of.other.now = search same in
-    rw (← answer_as told.enum_told.given.1 told.before.before.test-pair.ensures, ← q)
+    rw (← answer_as told.in-Accepted.is told.before.test_pair-tested.ensures, ← q)
     (ap (given 0) (value_words_lem _ c.before.agreements.ensures c.value.ensures))
 
-pub eval-eq-spec : {M : Type 1} → statement M
-eval-eq-spec =
+pub eval_eq_spec : {M : Type 1} → statement M
+eval_eq_spec =
     tie.close
     (tie.spec (search rules) (λ c. search rules) (λ c. search rules) agreements-requires (search rules) returns returns-2)

@@ -10,25 +10,25 @@ use Rattle.next.specs.Next.{eval_next_answer}
 use Rattle.next.proofs.eval_next.Statement.{statement}
 use Rattle.next.proofs.eval_next.Tie as tie
 
-next-parts-requires : tie.Need-next-parts-requires
+next-parts-requires : tie.Need-next_parts-requires
 next-parts-requires c κs =
-    let h = accepted _ tt c.enum_told.given.1 c.before.before.test-pair.ensures in
+    let h = accepted _ tt c.in-Accepted.is c.before.test_pair-tested.ensures in
     search point-says
 
-returns : tie.Need-returns
+returns : tie.Need-returns-in-Refused
 unfolding eval_next_answer
-returns c = rw (← answer_as c.before.tested.given.1 c.before.before.before.test-pair.ensures, kept)
+returns c = rw (← answer_as c.in-Refused.is c.before.test_pair-tested.ensures, kept)
 
-returns-2 : tie.Need-returns-2
+returns-2 : tie.Need-returns-in-Accepted
 unfolding eval_next_answer
 returns-2 c =
     let told = c.before in
-    let of = told.before.before.before.before.before.args in
-    let h = accepted _ tt told.enum_told.given.1 told.before.before.test-pair.ensures in
+    let of = told.before.before.before.before.args in
+    let h = accepted _ tt told.in-Accepted.is told.before.test_pair-tested.ensures in
     let q : entries of.point.now ≡ entries of.other.now = search same in
-    rw (← answer_as told.enum_told.given.1 told.before.before.test-pair.ensures, ← q) c.next-parts.ensures
+    rw (← answer_as told.in-Accepted.is told.before.test_pair-tested.ensures, ← q) c.next_parts.ensures
 
-pub eval-next-spec : {M : Type 1} → statement M
-eval-next-spec =
+pub eval_next_spec : {M : Type 1} → statement M
+eval_next_spec =
     tie.close
     (tie.spec (search rules) (λ c. search rules) (λ c. search rules) next-parts-requires returns returns-2)

@@ -14,17 +14,17 @@ returns c =
     let whole = split.before.before in
     gone_through _ tt
     (rw (
-      by_test _ _ c.refuse-if7.ensures c.before.unreduced2.ensures,
-      by_test _ _ below.refuse-if6.ensures below.before.unreduced.ensures,
-      by_test _ _ lengths.refuse-if5.ensures lengths.before.lengths_differ.ensures,
-      by_test _ _ many.refuse-if4.ensures many.before.too-many2.ensures,
-      by_test _ _ few.refuse-if3.ensures few.before.too_many.ensures,
-      by_test _ _ split.refuse-if2.ensures split.before.splits2.ensures,
-      by_test _ _ whole.refuse-if.ensures whole.before.splits.ensures,
+      by_test _ _ c.refuse_if-7.ensures c.before.unreduced-2.ensures,
+      by_test _ _ below.refuse_if-6.ensures below.before.unreduced.ensures,
+      by_test _ _ lengths.refuse_if-5.ensures lengths.before.lengths_differ.ensures,
+      by_test _ _ many.refuse_if-4.ensures many.before.too_many-2.ensures,
+      by_test _ _ few.refuse_if-3.ensures few.before.too_many.ensures,
+      by_test _ _ split.refuse_if-2.ensures split.before.splits-2.ensures,
+      by_test _ _ whole.refuse_if.ensures whole.before.splits.ensures,
     ))
 
-pub test-pair-spec : {M : Type 1} → statement M
-test-pair-spec =
+pub test_pair_spec : {M : Type 1} → statement M
+test_pair_spec =
     tie.close
     (tie.spec (search rules) (search rules) (search rules) (search rules) (search rules) (search rules) (search rules)
     (search rules) (search rules) (search rules) (search rules) (search rules) (search rules) (search rules) returns)

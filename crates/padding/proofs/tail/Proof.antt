@@ -7,62 +7,62 @@ use Rattle.padding.proofs.Weights.{point_is, plain, shifted, next}
 use Rattle.padding.proofs.tail.Statement.{statement}
 use Rattle.padding.proofs.tail.Tie as tie
 
-room : tie.Need-slice-aggregate-from-row
+room : tie.Need-slice_bounds-from_row-end
 room c = search rules
 
-room-2 : tie.Need-slice-aggregate-from-row-2
+room-2 : tie.Need-slice_bounds-from_row-end-in-Shifted
 room-2 c = search rules
 
-room-3 : tie.Need-slice-aggregate-at-row
+room-3 : tie.Need-slice_bounds-at_row-end
 room-3 c = search rules
 
-room-4 : tie.Need-slice-aggregate-from-row-3
+room-4 : tie.Need-slice_bounds-from_row-end-in-Next
 room-4 c = search rules
 
-from-row-requires : tie.Need-from-row-requires
+from-row-requires : tie.Need-from_row-requires
 from-row-requires c κs =
-    let begin = c.before.before.before.before in
+    let begin = c.before.before.before in
     (point_is begin.args.plan begin.requires.0 (room c), begin.requires.1)
 
-from-row-requires-2 : tie.Need-from-row-requires-2
+from-row-requires-2 : tie.Need-from_row-sum-requires
 from-row-requires-2 c κs =
-    let begin = c.before.before.before.before.before in
+    let begin = c.before.before.before.before in
     (point_is begin.args.plan begin.requires.0 (room-2 c.before), omega (arith, begin.requires.1, c.remaining.ensures))
 
-at-row-requires : tie.Need-at-row-requires
+at-row-requires : tie.Need-at_row-requires
 at-row-requires c κs =
-    let begin = c.before.before.before.before.before.before.before.before in
+    let begin = c.before.before.before.before.before.before.before in
     point_is begin.args.plan begin.requires.0 (room-3 c.before)
 
-from-row-requires-3 : tie.Need-from-row-requires-3
+from-row-requires-3 : tie.Need-from_row-requires-in-Next
 from-row-requires-3 c κs =
-    let begin = c.before.before.before.before.before in
-    (point_is begin.args.plan begin.requires.0 (room-4 c.before), omega (arith, begin.requires.1, c.remaining2.ensures))
+    let begin = c.before.before.before.before in
+    (point_is begin.args.plan begin.requires.0 (room-4 c.before), omega (arith, begin.requires.1, c.remaining-in-Next.ensures))
 
-returns : tie.Need-returns
+returns : tie.Need-returns-in-Plain
 returns c =
     let told = c.before.before in
-    let args = told.before.before.before.args in
-    plain args.plan args.row told.enum_told.given.1 c.from_row.ensures
+    let args = told.before.before.args in
+    plain args.plan args.row told.in-Plain.is c.from_row.ensures
 
-returns-2 : tie.Need-returns-2
+returns-2 : tie.Need-returns-in-Shifted
 returns-2 c =
     let rows = c.before.before in
     let sum = rows.before.before in
     let told = sum.before.before.before in
-    let begin = told.before.before.before in
-    shifted begin.args.plan begin.args.row told.enum-told2.given.1 begin.requires.1 sum.before.remaining.ensures
-    (ap (λ n. n - 1) rows.rows.ensures) sum.from-row2.ensures c.before.at_row.ensures c.sub.ensures
+    let begin = told.before.before in
+    shifted begin.args.plan begin.args.row told.in-Shifted.is begin.requires.1 sum.before.remaining.ensures
+    (ap (λ n. n - 1) rows.rows.ensures) sum.from_row-sum.ensures c.before.at_row.ensures c.sub.ensures
 
-returns-3 : tie.Need-returns-3
+returns-3 : tie.Need-returns-in-Next
 returns-3 c =
     let told = c.before.before.before in
-    let begin = told.before.before.before in
-    next begin.args.plan begin.args.row told.enum-told3.given.1 begin.requires.1 c.before.remaining2.ensures
-    c.from-row3.ensures
+    let begin = told.before.before in
+    next begin.args.plan begin.args.row told.in-Next.is begin.requires.1 c.before.remaining-in-Next.ensures
+    c.from_row-in-Next.ensures
 
-pub tail-spec : {M : Type 1} → statement M
-tail-spec =
+pub tail_spec : {M : Type 1} → statement M
+tail_spec =
     tie.close
     (tie.spec
     (search rules)

@@ -66,179 +66,179 @@ calls t = (
 
 module _ (t : ℕ) where
   -- the start, from where coordinates are known to be left
-  abbrev begin : scatter-lts.Else2 (calls t) (scatter-at t) scatter.Post → scatter-lts.Start (calls t) (scatter-at t) scatter.Post
+  abbrev begin : scatter-lts.Else-left-eq0 (calls t) (scatter-at t) scatter.Post → scatter-lts.Start (calls t) (scatter-at t) scatter.Post
   begin c = c.before.before.before.before.before
 
-  returns : scatter-lts.Need-returns (calls t) (scatter-at t) scatter.Post
-  returns c = no_words c.before.before.before.before.requires.1 c.if1.true
+  returns : scatter-lts.Need-returns-then-words-eq0 (calls t) (scatter-at t) scatter.Post
+  returns c = no_words c.before.before.before.before.requires.1 c.if-words-eq0.true
 
-  gain-row-requires : scatter-lts.Need-gain-row-requires (calls t) (scatter-at t) scatter.Post
+  gain-row-requires : scatter-lts.Need-gain_row-requires (calls t) (scatter-at t) scatter.Post
   gain-row-requires c κs =
       let none = c.before in
       let s = none.before.before.before.before.before.requires.1 in
-      (row_fits s none.if2.true, s.weight_is)
+      (row_fits s none.if-left-eq0.true, s.weight_is)
 
-  returns-2 : scatter-lts.Need-returns-2 (calls t) (scatter-at t) scatter.Post
+  returns-2 : scatter-lts.Need-returns-then-left-eq0 (calls t) (scatter-at t) scatter.Post
   returns-2 c =
       let gained = c.before.before in
       let none = gained.before.before in
-      row_scattered none.before.before.before.before.before.requires.1 none.if2.true gained.gain-row.ensures
+      row_scattered none.before.before.before.before.before.requires.1 none.if-left-eq0.true gained.gain_row.ensures
 
-  four-rows-requires : scatter-lts.Need-four-rows-requires (calls t) (scatter-at t) scatter.Post
+  four-rows-requires : scatter-lts.Need-four_rows-requires (calls t) (scatter-at t) scatter.Post
   four-rows-requires c κs =
       let whole = c.before in
       let two = whole.before in
-      let s = (begin two.before).pre.1 in
-      ((rw two.if3.true at s.rest_is, s.weight_is), rows_fit s 2 two.if3.true (eqb-true _ _ whole.if4.true))
+      let s = (begin two.before).requires.1 in
+      ((rw two.if-left-eq2.true at s.rest_is, s.weight_is), rows_fit s 2 two.if-left-eq2.true whole.if-words-inner.true)
 
-  returns-3 : scatter-lts.Need-returns-3 (calls t) (scatter-at t) scatter.Post
+  returns-3 : scatter-lts.Need-returns-then-words-inner (calls t) (scatter-at t) scatter.Post
   returns-3 c =
       let gained = c.before.before in
       let whole = gained.before.before in
       let two = whole.before in
-      rows_scattered (begin two.before).pre.1 2 two.if3.true (eqb-true _ _ whole.if4.true) gained.four_rows.ensures (λ y h. refl)
+      rows_scattered (begin two.before).requires.1 2 two.if-left-eq2.true whole.if-words-inner.true gained.four_rows.ensures (λ y h. refl)
 
-  block-rows-requires : scatter-lts.Need-block-rows-requires (calls t) (scatter-at t) scatter.Post
+  block-rows-requires : scatter-lts.Need-block_rows-requires (calls t) (scatter-at t) scatter.Post
   block-rows-requires c κs =
       let whole = c.before in
       let last = whole.before in
-      let s = (begin last.before.before).pre.1 in
-      ((rw last.if5.true at s.rest_is, s.weight_is), (rows_fit s 5 last.if5.true (eqb-true _ _ whole.if6.true), s.out_below))
+      let s = (begin last.before.before).requires.1 in
+      ((rw last.if-left-eq5.true at s.rest_is, s.weight_is), (rows_fit s 5 last.if-left-eq5.true whole.if-words-inner-2.true, s.out_below))
 
-  returns-4 : scatter-lts.Need-returns-4 (calls t) (scatter-at t) scatter.Post
+  returns-4 : scatter-lts.Need-returns-then-words-inner-2 (calls t) (scatter-at t) scatter.Post
   returns-4 c =
       let gained = c.before.before in
       let whole = gained.before.before in
       let last = whole.before in
-      rows_scattered (begin last.before.before).pre.1 5 last.if5.true (eqb-true _ _ whole.if6.true)
-      gained.block-rows.ensures (λ y h. refl)
+      rows_scattered (begin last.before.before).requires.1 5 last.if-left-eq5.true whole.if-words-inner-2.true
+      gained.block_rows.ensures (λ y h. refl)
 
   read-requires : scatter-lts.Need-read-requires (calls t) (scatter-at t) scatter.Post
   read-requires c κs =
       let some = c.before.before in
-      (omega (arith, pos_of_ne-zero some.if2.false), (begin some).requires.1.rest_is.below)
+      (omega (arith, pos_of_ne-zero some.if-left-eq0.false), (begin some).requires.1.rest_is.below)
 
   -- both halves' weights are made
-  module _ (low : scatter-lts.After-sub (calls t) (scatter-at t) scatter.Post) where
-    abbrev some : scatter-lts.Else2 (calls t) (scatter-at t) scatter.Post
+  module _ (low : scatter-lts.After-sub-low (calls t) (scatter-at t) scatter.Post) where
+    abbrev some : scatter-lts.Else-left-eq0 (calls t) (scatter-at t) scatter.Post
     some = low.before.before.before.before.before
 
     abbrev pre : scatter-lts.Start (calls t) (scatter-at t) scatter.Post
     pre = begin some
 
-  gain-two-requires : scatter-lts.Need-gain-two-requires (calls t) (scatter-at t) scatter.Post
+  gain-two-requires : scatter-lts.Need-gain_two-requires (calls t) (scatter-at t) scatter.Post
   gain-two-requires c κs =
       let whole = c.before in
       let low = whole.before.before in
-      (rows_fit (pre low).requires.1 1 whole.before.if7.true (eqb-true _ _ whole.if8.true), (low.sub.ensures.below, low.before.mul.ensures.below))
+      (rows_fit (pre low).requires.1 1 whole.before.if-left-eq1.true whole.if-words-inner-3.true, (low.sub-low.ensures.below, low.before.mul-high.ensures.below))
 
-  returns-5 : scatter-lts.Need-returns-5 (calls t) (scatter-at t) scatter.Post
+  returns-5 : scatter-lts.Need-returns-then-words-inner-3 (calls t) (scatter-at t) scatter.Post
   returns-5 c =
       let gained = c.before.before in
       let whole = gained.before.before in
       let low = whole.before.before in
       let args = (pre low).args in
-      rows_scattered (pre low).requires.1 1 whole.before.if7.true (eqb-true _ _ whole.if8.true) gained.gain-two.ensures (λ y h.
-      two_rows_lem args.weight args.rest.now args.words.now _ low.before.before.read.ensures low.before.mul.ensures
-      low.sub.ensures y)
+      rows_scattered (pre low).requires.1 1 whole.before.if-left-eq1.true whole.if-words-inner-3.true gained.gain_two.ensures (λ y h.
+      two_rows_lem args.weight args.rest.now args.words.now _ low.before.before.read.ensures low.before.mul-high.ensures
+      low.sub-low.ensures y)
 
-  mul-half : scatter-lts.Need-overflow-mul-half (calls t) (scatter-at t) scatter.Post
+  mul-half : scatter-lts.Need-overflow_mul-half (calls t) (scatter-at t) scatter.Post
   mul-half c =
       let low = c.before.before in
-      omega (arith, half_fits (pre low).requires.1 (some low).if2.false c.rows.ensures)
+      omega (arith, half_fits (pre low).requires.1 (some low).if-left-eq0.false c.rows.ensures)
 
   -- the halves are known
-  module _ (cut : scatter-lts.After-min2 (calls t) (scatter-at t) scatter.Post) where
-    abbrev start : scatter-lts.After-min (calls t) (scatter-at t) scatter.Post
+  module _ (cut : scatter-lts.After-min-cut (calls t) (scatter-at t) scatter.Post) where
+    abbrev start : scatter-lts.After-min-at0 (calls t) (scatter-at t) scatter.Post
     start = cut.before
 
-    abbrev made : scatter-lts.After-sub (calls t) (scatter-at t) scatter.Post
+    abbrev made : scatter-lts.After-sub-low (calls t) (scatter-at t) scatter.Post
     made = start.before.before.before
 
-    there : cut.min2.result ≤ length (pre made).args.words.now
-    there = omega (arith, cut.min2.ensures)
+    there : cut.min-cut.result ≤ length (pre made).args.words.now
+    there = omega (arith, cut.min-cut.ensures)
 
     more : 4 ≤ length (pre made).args.rest.now
-    more = omega (arith, pos_of_ne-zero (some made).if2.left)
+    more = omega (arith, pos_of_ne-zero (some made).if-left-eq0.false)
 
     less : length (others (pre made).args.rest.now) < t
-    less = omega (arith, more, (pre made).pre.0, after_length 4 (pre made).args.rest.now)
+    less = omega (arith, more, (pre made).requires.0, after_length 4 (pre made).args.rest.now)
 
   -- after the first half
-  abbrev first-cut : scatter-lts.After-slice-known6 (calls t) (scatter-at t) scatter.Post
-      → scatter-lts.After-min2 (calls t) (scatter-at t) scatter.Post
-  first-cut c = c.before.before.before.before.before.before
+  abbrev first-cut : scatter-lts.After-slice_known-2-1 (calls t) (scatter-at t) scatter.Post
+      → scatter-lts.After-min-cut (calls t) (scatter-at t) scatter.Post
+  first-cut c = c.before.before.before.before.before
 
   scatter-requires : scatter-lts.Need-scatter-requires (calls t) (scatter-at t) scatter.Post
   scatter-requires c κs =
-      let cut = c.before.before.before in
+      let cut = c.before.before in
       let low = made cut in (
         less cut,
-        low_scatters (pre low).pre.1 (some low).if2.left _ (start cut).before.rows.ensures _ _ (start cut).min.ensures
-            cut.min2.ensures (search rules),
+        low_scatters (pre low).requires.1 (some low).if-left-eq0.false _ (start cut).before.rows.ensures _ _ (start cut).min-at0.ensures
+            cut.min-cut.ensures (search rules),
       )
 
   scatter-requires-2 : scatter-lts.Need-scatter-requires-2 (calls t) (scatter-at t) scatter.Post
   scatter-requires-2 c κs =
       let first = c.before.before.before.before.before in
-      let cut = first.before.before.before.before in
+      let cut = first.before.before.before in
       let low = made cut in (
         less cut,
-        high_scatters (pre low).pre.1 (some low).if2.left _ (start cut).before.rows.ensures _ _ (start cut).min.ensures
-            cut.min2.ensures (search rules) first.scatter.ensures,
+        high_scatters (pre low).requires.1 (some low).if-left-eq0.false _ (start cut).before.rows.ensures _ _ (start cut).min-at0.ensures
+            cut.min-cut.ensures (search rules) first.scatter.ensures,
       )
 
-  returns-6 : scatter-lts.Need-returns-6 (calls t) (scatter-at t) scatter.Post
+  returns-6 : scatter-lts.Need-returns (calls t) (scatter-at t) scatter.Post
   returns-6 c =
       let second = c.before.before in
       let first = second.before.before.before.before.before.before in
-      let cut = first.before.before.before.before in
+      let cut = first.before.before.before in
       let low = made cut in
-      halves_joined (pre low).pre.1 (some low).if2.left _ (start cut).before.rows.ensures _ _ (start cut).min.ensures
-      cut.min2.ensures low.before.before.read.ensures low.before.mul.ensures low.sub.ensures first.scatter.ensures
-      second.scatter2.ensures
+      halves_joined (pre low).requires.1 (some low).if-left-eq0.false _ (start cut).before.rows.ensures _ _ (start cut).min-at0.ensures
+      cut.min-cut.ensures low.before.before.read.ensures low.before.mul-high.ensures low.sub-low.ensures first.scatter.ensures
+      second.scatter-2.ensures
 
-pub +scatter-spec : {M : Type 1} → statement M
-+scatter-spec =
+pub +scatter_spec : {M : Type 1} → statement M
++scatter_spec =
     close μ-scatter λ t.
     scatter-lts.spec (calls t) (scatter-at t) scatter.Post
     (returns t)
     (gain-row-requires t)
     (λ c. search rules)
     (returns-2 t)
-    (λ c. omega (arith, (begin t c.before).pre.1.room))
+    (λ c. omega (arith, (begin t c.before).requires.1.room))
     (four-rows-requires t)
     (λ c. search rules)
     (returns-3 t)
-    (λ c. let s = (begin t c.before.before).pre.1 in
-    let few : 2 ^ 5 * entries (begin t c.before.before).args.out.now ≤ 2 ^ most = rw c.if5.true at s.small in
+    (λ c. let s = (begin t c.before.before).requires.1 in
+    let few : 2 ^ 5 * entries (begin t c.before.before).args.out.now ≤ 2 ^ most = rw c.if-left-eq5.true at s.small in
     omega (arith, s.room, few))
     (block-rows-requires t)
     (λ c. search rules)
     (returns-4 t)
     (read-requires t)
-    (λ c κs. ((begin t c.before.before.before).pre.1.weight_is, c.read.ensures.below))
-    (λ c κs. ((begin t c.before.before.before.before).pre.1.weight_is, c.mul.ensures.below))
-    (λ c. omega (arith, (pre t c.before).pre.1.room))
+    (λ c κs. ((begin t c.before.before.before).requires.1.weight_is, c.read.ensures.below))
+    (λ c κs. ((begin t c.before.before.before.before).requires.1.weight_is, c.mul-high.ensures.below))
+    (λ c. omega (arith, (pre t c.before).requires.1.room))
     (gain-two-requires t)
     (λ c. search rules)
     (returns-5 t)
-    (λ c. pos_of_ne-zero (some t c.before).if2.left)
-    (λ c κs. omega (arith, (pre t c.before).pre.1.rest_is.few))
+    (λ c. pos_of_ne-zero (some t c.before).if-left-eq0.false)
+    (λ c κs. omega (arith, (pre t c.before).requires.1.rest_is.few))
     (mul-half t)
     (λ c κs. search rules)
-    (λ c. omega (arith, c.min.ensures))
+    (λ c. omega (arith, c.min-at0.ensures))
     (λ c κs. search rules)
-    (λ c. sym (length-take-le _ _ (there t c.before)))
-    (λ c. omega (arith, more t c.before))
-    (λ c. omega (arith, more t c.before))
-    (λ c. omega (arith, more t c.before))
+    (λ c. sym (length-take-le _ _ (there t c)))
+    (λ c. omega (arith, more t c))
+    (λ c. omega (arith, more t c))
+    (λ c. omega (arith, more t c))
     (scatter-requires t)
     (λ c. omega (arith, there t (first-cut t c)))
     (λ c. omega (arith, there t (first-cut t c)))
     (λ c. omega (arith, there t (first-cut t c)))
     (λ c. omega (arith, there t (first-cut t c)))
-    (λ c. omega (arith, (start t (first-cut t c.before)).min.ensures))
+    (λ c. omega (arith, (start t (first-cut t c.before)).min-at0.ensures))
     (λ c. omega (arith, more t (first-cut t c.before)))
     (λ c. omega (arith, more t (first-cut t c.before)))
     (λ c. omega (arith, more t (first-cut t c.before)))

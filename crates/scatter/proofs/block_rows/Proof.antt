@@ -13,16 +13,16 @@ use Rattle.scatter.proofs.block_rows.Tie as tie
 fill-requires : tie.Need-fill-requires
 fill-requires c κs =
     let begin = c.before.before.before.before.before in
-    record { point_is = begin.requires.0.0; scale_is = begin.requires.0.1; room = ap length c.before.room.ensures }
+    record { point_is = begin.requires.0.0; scale_is = begin.requires.0.1; room = ap length c.before.room-weights.ensures }
 
-module _ (c : tie.After-by-table-arg) where
+module _ (c : tie.After-by_table-arg-1) where
   abbrev filled : tie.After-fill
   filled = c.before.before.before
 
   abbrev begin : tie.Start
   begin = filled.before.before.before.before.before.before
 
-by-table-requires : tie.Need-by-table-requires
+by-table-requires : tie.Need-by_table-requires
 by-table-requires c κs =
     let table = (filled c).fill.ensures in
     record {
@@ -36,8 +36,8 @@ returns : tie.Need-returns
 returns c =
     let by = c.before.before in
     let lent = by.before in
-    all_rows _ _ _ _ _ (filled lent).fill.ensures by.by-table.ensures
+    all_rows _ _ _ _ _ (filled lent).fill.ensures by.by_table.ensures
 
-pub block-rows-spec : {M : Type 1} → statement M
-block-rows-spec =
+pub block_rows_spec : {M : Type 1} → statement M
+block_rows_spec =
     tie.close (tie.spec (λ c κs. search rules) (λ c. search rules) fill-requires (λ c. search rules) by-table-requires (λ c. search rules) returns)

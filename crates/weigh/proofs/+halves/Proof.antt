@@ -51,62 +51,62 @@ calls t = (
 )
 
 -- the weights of the words that are there
-little : (t : ℕ) (c : halves-lts.Then2 (calls t) (halves-at t) halves.Post)
+little : (t : ℕ) (c : halves-lts.Then-high-eq0 (calls t) (halves-at t) halves.Post)
     → let args = c.before.before.before.before.before.args in args.from + length args.words.now ≤ 2 ^ block_variables
-little t c = few c.before.before.before.before.before.requires.1 c.if2.true
+little t c = few c.before.before.before.before.before.requires.1 c.if-high-eq0.true
 
 -- the words of the low half are there
-there : (t : ℕ) (c : halves-lts.After-min2 (calls t) (halves-at t) halves.Post)
-    → c.min2.result ≤ length c.before.before.before.before.before.before.before.before.args.words.now
-there t c = omega (arith, c.min2.ensures)
+there : (t : ℕ) (c : halves-lts.After-min-cut (calls t) (halves-at t) halves.Post)
+    → c.min-cut.result ≤ length c.before.before.before.before.before.before.before.before.args.words.now
+there t c = omega (arith, c.min-cut.ensures)
 
-halves-requires : (t : ℕ) → halves-lts.Need-halves-requires (calls t) (halves-at t) halves.Post
+halves-requires : (t : ℕ) → halves-lts.Need-halves-at0-requires (calls t) (halves-at t) halves.Post
 halves-requires t c κs =
-    let cut = c.before in
+    let cut = c in
     let start = cut.before in
     let rows = start.before in
     let left = rows.before in
     let begin = left.before.before.before.before.before in (
-      omega (arith, begin.requires.0, pos_of_ne-zero left.if2.false),
-      low_parts begin.requires.1 left.if2.false _ rows.rows.ensures _ _ start.min.ensures cut.min2.ensures,
+      omega (arith, begin.requires.0, pos_of_ne-zero left.if-high-eq0.false),
+      low_parts begin.requires.1 left.if-high-eq0.false _ rows.rows-half.ensures _ _ start.min-from0.ensures cut.min-cut.ensures,
     )
 
-halves-requires-2 : (t : ℕ) → halves-lts.Need-halves-requires-2 (calls t) (halves-at t) halves.Post
+halves-requires-2 : (t : ℕ) → halves-lts.Need-halves-at1-requires (calls t) (halves-at t) halves.Post
 halves-requires-2 t c κs =
-    let cut = c.before.before.before in
+    let cut = c.before.before in
     let start = cut.before in
     let rows = start.before in
     let left = rows.before in
     let begin = left.before.before.before.before.before in (
-      omega (arith, begin.requires.0, pos_of_ne-zero left.if2.false),
-      high_parts begin.requires.1 left.if2.false _ rows.rows.ensures _ _ start.min.ensures cut.min2.ensures,
+      omega (arith, begin.requires.0, pos_of_ne-zero left.if-high-eq0.false),
+      high_parts begin.requires.1 left.if-high-eq0.false _ rows.rows-half.ensures _ _ start.min-from0.ensures cut.min-cut.ensures,
     )
 
-returns : (t : ℕ) → halves-lts.Need-returns (calls t) (halves-at t) halves.Post
+returns : (t : ℕ) → halves-lts.Need-returns-then-words-eq0 (calls t) (halves-at t) halves.Post
 returns t c =
     let no_words = c.before in
-    nothing no_words.before.before.before.before.requires.1 no_words.if1.true c.zero.ensures
+    nothing no_words.before.before.before.before.requires.1 no_words.if-words-eq0.true c.zero.ensures
 
-returns-2 : (t : ℕ) → halves-lts.Need-returns-2 (calls t) (halves-at t) halves.Post
+returns-2 : (t : ℕ) → halves-lts.Need-returns-then-high-eq0 (calls t) (halves-at t) halves.Post
 returns-2 t c =
     let none = c.before.before in
-    dotted none.before.before.before.before.before.requires.1 none.if2.true c.dot.ensures
+    dotted none.before.before.before.before.before.requires.1 none.if-high-eq0.true c.dot.ensures
 
-returns-3 : (t : ℕ) → halves-lts.Need-returns-3 (calls t) (halves-at t) halves.Post
+returns-3 : (t : ℕ) → halves-lts.Need-returns-else-high-eq0 (calls t) (halves-at t) halves.Post
 returns-3 t c =
     let read = c.before in
     let at1 = read.before in
     let at0 = at1.before.before in
-    let cut = at0.before.before in
+    let cut = at0.before in
     let start = cut.before in
     let rows = start.before in
     let left = rows.before in
     let parts = left.before.before.before.before.before.requires.1 in
-    words_joined parts left.if2.false _ rows.rows.ensures _ _ start.min.ensures cut.min2.ensures
-    at0.halves.ensures at1.halves2.ensures read.read.ensures c.line.ensures
+    words_joined parts left.if-high-eq0.false _ rows.rows-half.ensures _ _ start.min-from0.ensures cut.min-cut.ensures
+    at0.halves-at0.ensures at1.halves-at1.ensures read.read.ensures c.line.ensures
 
-pub +halves-spec : {M : Type 1} → statement M
-+halves-spec =
+pub +halves_spec : {M : Type 1} → statement M
++halves_spec =
     close μ-halves λ t.
     halves-lts.spec (calls t) (halves-at t) halves.Post
     (λ c κs. tt)
@@ -118,23 +118,23 @@ pub +halves-spec : {M : Type 1} → statement M
     (λ c. omega arith)
     (λ c.
     let parts = c.before.before.before.before.before.requires.1 in
-    omega (arith, few_words parts c.if2.true, parts.room))
-    (λ c κs. dots c.before.before.before.before.before.before.requires.1 c.before.if2.true)
+    omega (arith, few_words parts c.if-high-eq0.true, parts.room))
+    (λ c κs. dots c.before.before.before.before.before.before.requires.1 c.before.if-high-eq0.true)
     (search rules)
     (search rules)
     (λ c κs. search rules)
     (λ c κs. search rules)
-    (λ c. omega (arith, c.min.ensures))
+    (λ c. omega (arith, c.min-from0.ensures))
     (λ c κs. search rules)
-    (λ c. sym (length-take-le _ _ (there t c.before)))
+    (λ c. sym (length-take-le _ _ (there t c)))
     (search rules)
     (search rules)
     (halves-requires t)
-    (λ c. omega (arith, there t c.before.before))
-    (λ c. omega (arith, there t c.before.before))
-    (λ c. omega (arith, there t c.before.before))
-    (λ c. omega (arith, there t c.before.before))
-    (λ c. omega (arith, c.before.before.before.before.min.ensures))
+    (λ c. omega (arith, there t c.before))
+    (λ c. omega (arith, there t c.before))
+    (λ c. omega (arith, there t c.before))
+    (λ c. omega (arith, there t c.before))
+    (λ c. omega (arith, c.before.before.before.min-from0.ensures))
     (search rules)
     (search rules)
     (halves-requires-2 t)

@@ -44,53 +44,53 @@ calls t = (
 )
 
 -- the low half is there
-there : (t : ℕ) (c : halves-ext-lts.After-rows2 (calls t) (halves-ext-at t) halves-ext.Post)
-    → 4 * c.rows2.result ≤ length c.before.before.before.before.before.args.entries.now
+there : (t : ℕ) (c : halves-ext-lts.After-rows-half (calls t) (halves-ext-at t) halves-ext.Post)
+    → 4 * c.rows-half.result ≤ length c.before.before.before.before.before.args.entries.now
 there t c =
     let left = c.before in
-    half_there left.before.before.before.before.requires.1 left.if1.false _ c.rows2.ensures
+    half_there left.before.before.before.before.requires.1 left.if-high-eq0.false _ c.rows-half.ensures
 
-dot-ext-requires : (t : ℕ) → halves-ext-lts.Need-dot-ext-requires (calls t) (halves-ext-at t) halves-ext.Post
+dot-ext-requires : (t : ℕ) → halves-ext-lts.Need-dot_ext-requires (calls t) (halves-ext-at t) halves-ext.Post
 dot-ext-requires t c κs =
     let none = c.before in
-    pairs none.before.before.before.before.requires.1 none.if1.true _ c.rows.ensures
+    pairs none.before.before.before.before.requires.1 none.if-high-eq0.true _ c.rows.ensures
 
-halves-ext-requires : (t : ℕ) → halves-ext-lts.Need-halves-ext-requires (calls t) (halves-ext-at t) halves-ext.Post
+halves-ext-requires : (t : ℕ) → halves-ext-lts.Need-halves_ext-at0-requires (calls t) (halves-ext-at t) halves-ext.Post
 halves-ext-requires t c κs =
-    let left = c.before.before in
+    let left = c.before in
     let begin = left.before.before.before.before in (
-      omega (arith, begin.requires.0, pos_of_ne-zero left.if1.false),
-      low_parts begin.requires.1 left.if1.false _ c.before.rows2.ensures,
+      omega (arith, begin.requires.0, pos_of_ne-zero left.if-high-eq0.false),
+      low_parts begin.requires.1 left.if-high-eq0.false _ c.rows-half.ensures,
     )
 
-halves-ext-requires-2 : (t : ℕ) → halves-ext-lts.Need-halves-ext-requires-2 (calls t) (halves-ext-at t) halves-ext.Post
+halves-ext-requires-2 : (t : ℕ) → halves-ext-lts.Need-halves_ext-at1-requires (calls t) (halves-ext-at t) halves-ext.Post
 halves-ext-requires-2 t c κs =
-    let rows = c.before.before.before in
+    let rows = c.before.before in
     let left = rows.before in
     let begin = left.before.before.before.before in (
-      omega (arith, begin.requires.0, pos_of_ne-zero left.if1.false),
-      high_parts begin.requires.1 left.if1.false _ rows.rows2.ensures,
+      omega (arith, begin.requires.0, pos_of_ne-zero left.if-high-eq0.false),
+      high_parts begin.requires.1 left.if-high-eq0.false _ rows.rows-half.ensures,
     )
 
-returns : (t : ℕ) → halves-ext-lts.Need-returns (calls t) (halves-ext-at t) halves-ext.Post
+returns : (t : ℕ) → halves-ext-lts.Need-returns-then-high-eq0 (calls t) (halves-ext-at t) halves-ext.Post
 returns t c =
     let rows = c.before in
     let none = rows.before in
-    paired none.before.before.before.before.requires.1 none.if1.true _ rows.rows.ensures c.dot-ext.ensures
+    paired none.before.before.before.before.requires.1 none.if-high-eq0.true _ rows.rows.ensures c.dot_ext.ensures
 
-returns-2 : (t : ℕ) → halves-ext-lts.Need-returns-2 (calls t) (halves-ext-at t) halves-ext.Post
+returns-2 : (t : ℕ) → halves-ext-lts.Need-returns-else-high-eq0 (calls t) (halves-ext-at t) halves-ext.Post
 returns-2 t c =
     let read = c.before in
     let at1 = read.before in
     let at0 = at1.before.before in
-    let rows = at0.before.before in
+    let rows = at0.before in
     let left = rows.before in
     let parts = left.before.before.before.before.requires.1 in
-    elements_joined parts left.if1.false _ rows.rows2.ensures at0.halves-ext.ensures at1.halves-ext2.ensures
+    elements_joined parts left.if-high-eq0.false _ rows.rows-half.ensures at0.halves_ext-at0.ensures at1.halves_ext-at1.ensures
     read.read.ensures c.line.ensures
 
-pub +halves-ext-spec : {M : Type 1} → statement M
-+halves-ext-spec =
+pub +halves_ext_spec : {M : Type 1} → statement M
++halves_ext_spec =
     close μ-halves-ext λ t.
     halves-ext-lts.spec (calls t) (halves-ext-at t) halves-ext.Post
     (λ c κs. search rules)
@@ -99,14 +99,14 @@ pub +halves-ext-spec : {M : Type 1} → statement M
     (search rules)
     (λ c κs. search rules)
     (λ c. omega (arith, there t c))
-    (λ c. sym (length-take-le _ _ (there t c.before)))
+    (λ c. sym (length-take-le _ _ (there t c)))
     (search rules)
     (search rules)
     (halves-ext-requires t)
-    (λ c. omega (arith, there t c.before.before))
-    (λ c. omega (arith, there t c.before.before))
-    (λ c. omega (arith, there t c.before.before))
-    (λ c. omega (arith, there t c.before.before))
+    (λ c. omega (arith, there t c.before))
+    (λ c. omega (arith, there t c.before))
+    (λ c. omega (arith, there t c.before))
+    (λ c. omega (arith, there t c.before))
     (search rules)
     (search rules)
     (halves-ext-requires-2 t)

@@ -7,17 +7,17 @@ use lib.Pow.{pow_pos, pow_mono}
 use Rattle.weigh.proofs.crosses.Statement.{statement}
 use Rattle.weigh.proofs.crosses.Tie as tie
 
-module _ (c : tie.After-rows) where
-  some : 0 < c.rows.result
-  some = omega (arith, pow_pos c.before.args.n, c.rows.ensures)
+module _ (c : tie.After-rows-rows) where
+  some : 0 < c.rows-rows.result
+  some = omega (arith, pow_pos c.before.args.n, c.rows-rows.ensures)
 
-add-result : tie.Need-overflow-add-result
+add-result : tie.Need-overflow_add-result
 add-result c =
     let few = pow_mono c.before.requires.0 in
-    omega (arith, mod-lt c.before.args.from (some c), few, c.rows.ensures, c.before.requires.1)
+    omega (arith, mod-lt c.before.args.from (some c), few, c.rows-rows.ensures, c.before.requires.1)
 
 returns : tie.Need-returns
-returns c = rw c.rows.ensures
+returns c = rw c.rows-rows.ensures
 
-pub crosses-spec : {M : Type 1} → statement M
-crosses-spec = tie.close (tie.spec (λ c κs. search rules) some add-result returns)
+pub crosses_spec : {M : Type 1} → statement M
+crosses_spec = tie.close (tie.spec (λ c κs. search rules) some add-result returns)

@@ -10,5 +10,5 @@ returns c =
     let sub = mul.before in
     rw (read_as _ mul.mul.ensures, read_as _ sub.sub.ensures) at c.add.ensures
 
-pub line-spec : {M : Type 1} → statement M
-line-spec = tie.close (tie.spec (λ c κs. search rules) (λ c κs. search rules) (λ c κs. search rules) returns)
+pub line_spec : {M : Type 1} → statement M
+line_spec = tie.close (tie.spec (λ c κs. search rules) (λ c κs. search rules) (λ c κs. search rules) returns)

@@ -9,10 +9,10 @@ use lib.Pow.{pow_mono}
 use Rattle.weigh.proofs.spanned.Statement.{statement}
 use Rattle.weigh.proofs.spanned.Tie as tie
 
-abbrev invariant-loop : tie.invariant-loop
+abbrev invariant-loop : tie.invariant-loop-own
 invariant-loop from len high low own₀ own = own ≤ high
 
-abbrev decreases-loop : tie.decreases-loop
+abbrev decreases-loop : tie.decreases-loop-own
 decreases-loop from len high low own₀ own = high - own
 
 -- words that pass the end of their part are not in the whole table's
@@ -30,28 +30,28 @@ not-all from len low {own} {high} h fits passed = go (dec_lt own high)
 crosses-requires : tie.Need-crosses-requires invariant-loop decreases-loop
 crosses-requires c κs =
     let pre = c.before.requires in
-    (omega (arith, c.loop.invariant, pre.0), omega (arith, pre.1, pow_mono pre.0))
+    (omega (arith, c.loop-own.invariant, pre.0), omega (arith, pre.1, pow_mono pre.0))
 
 -- not the whole table yet
-left : (c : tie.Then1 invariant-loop decreases-loop) → c.before.before.loop.own < c.before.before.before.args.high
+left : (c : tie.In-loop-own invariant-loop decreases-loop) → c.before.before.loop-own.own < c.before.before.before.args.high
 left c =
     let at = c.before.before in
-    not-all at.before.args.from at.before.args.len at.before.args.low at.loop.invariant at.before.requires.1
-    (ltb-true _ _ (sym c.before.crosses.ensures ∙ c.if1.true))
+    not-all at.before.args.from at.before.args.len at.before.args.low at.loop-own.invariant at.before.requires.1
+    (ltb-true _ _ (sym c.before.crosses.ensures ∙ c.loop-own-test.true))
 
 returns : tie.Need-returns invariant-loop decreases-loop
 returns c =
     let test = c.before in
-    (test.before.loop.invariant, ltb-false _ _ (sym test.crosses.ensures ∙ c.if1.false))
+    (test.before.loop-own.invariant, ltb-false _ _ (sym test.crosses.ensures ∙ c.loop-own-test.false))
 
-pub spanned-spec : {M : Type 1} → statement M
-spanned-spec =
+pub spanned_spec : {M : Type 1} → statement M
+spanned_spec =
     tie.close
     (tie.spec
     invariant-loop
     decreases-loop
     (λ c. omega arith)
-    (λ c. omega (arith, c.loop.invariant, c.before.requires.0))
+    (λ c. omega (arith, c.loop-own.invariant, c.before.requires.0))
     crosses-requires
     (λ c. omega (arith, left c))
     (λ c. omega (arith, left c))

@@ -9,7 +9,7 @@ halves-requires : tie.Need-halves-requires
 halves-requires c κs =
     let raised = c.before in
     let pre = raised.before.before.before.before.requires in
-    (ready pre.0 raised.raised.ensures, pre.1)
+    (ready pre.0 raised.raised-raised.ensures, pre.1)
 
 pub value_spec : {M : Type 1} → statement M
 value_spec =

@@ -5,14 +5,14 @@ use Rattle.weigh.proofs.Weighing.{unscaled}
 use Rattle.weigh.proofs.value_ext.Statement.{statement}
 use Rattle.weigh.proofs.value_ext.Tie as tie
 
-halves-ext-requires : tie.Need-halves-ext-requires
+halves-ext-requires : tie.Need-halves_ext-requires
 halves-ext-requires c κs =
     let raised = c.before in
     let pre = raised.before.before.before.before.requires in
-    (ready pre.0 raised.raised.ensures, pre.1)
+    (ready pre.0 raised.raised-raised.ensures, pre.1)
 
-pub value-ext-spec : {M : Type 1} → statement M
-value-ext-spec =
+pub value_ext_spec : {M : Type 1} → statement M
+value_ext_spec =
     tie.close
     (tie.spec
     (λ c κs. search rules)
@@ -21,4 +21,4 @@ value-ext-spec =
     (λ c κs. search rules)
     (λ c κs. search rules)
     (λ c. search rules)
-    (λ c. unscaled _ _ c.before.one.ensures c.weigh-ext.ensures))
+    (λ c. unscaled _ _ c.before.one.ensures c.weigh_ext.ensures))

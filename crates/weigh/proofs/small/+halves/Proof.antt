@@ -52,77 +52,77 @@ calls t = (
 )
 
 -- where the table is split
-module _ (t : ℕ) (c : halves-lts.After-rows (calls t) (halves-at t) halves.Post) where
+module _ (t : ℕ) (c : halves-lts.After-rows-half (calls t) (halves-at t) halves.Post) where
   abbrev begin : halves-lts.Start (calls t) (halves-at t) halves.Post
   begin = c.before.before.before.before.before.before.before
 
   -- there are variables
   left : begin.args.n ≡ 0 → ⊥
-  left = c.before.before.before.if1.false
+  left = c.before.before.before.if-n-eq0.false
 
   more : begin.args.n ≡ suc (begin.args.n - 1)
   more = one_more left
 
   -- the low half is there
-  there : c.rows.result ≤ length begin.args.words.now
-  there = half_there more c.rows.ensures begin.pre.1.1
+  there : c.rows-half.result ≤ length begin.args.words.now
+  there = half_there more c.rows-half.ensures begin.requires.1.1
 
-halves-requires : (t : ℕ) → halves-lts.Need-halves-requires (calls t) (halves-at t) halves.Post
+halves-requires : (t : ℕ) → halves-lts.Need-halves-at0-requires (calls t) (halves-at t) halves.Post
 halves-requires t c κs =
-    let rows = c.before in
+    let rows = c in
     let pre = (begin t rows).requires in (
       omega (arith, pre.0, pos_of_ne-zero (left t rows)),
-      (half_ready (more t rows) pre.1.0, low_whole (more t rows) rows.rows.ensures pre.1.1),
+      (half_ready (more t rows) pre.1.0, low_whole (more t rows) rows.rows-half.ensures pre.1.1),
     )
 
-halves-requires-2 : (t : ℕ) → halves-lts.Need-halves-requires-2 (calls t) (halves-at t) halves.Post
+halves-requires-2 : (t : ℕ) → halves-lts.Need-halves-at1-requires (calls t) (halves-at t) halves.Post
 halves-requires-2 t c κs =
-    let rows = c.before.before.before in
+    let rows = c.before.before in
     let pre = (begin t rows).requires in (
       omega (arith, pre.0, pos_of_ne-zero (left t rows)),
-      (half_ready (more t rows) pre.1.0, high_whole (more t rows) rows.rows.ensures pre.1.1),
+      (half_ready (more t rows) pre.1.0, high_whole (more t rows) rows.rows-half.ensures pre.1.1),
     )
 
-line-at-requires : (t : ℕ) → halves-lts.Need-line-at-requires (calls t) (halves-at t) halves.Post
+line-at-requires : (t : ℕ) → halves-lts.Need-line_at-requires (calls t) (halves-at t) halves.Post
 line-at-requires t c κs =
-    let rows = c.before.before.before.before in
+    let rows = c.before.before.before in
     (search rules, first (pos_of_ne-zero (left t rows)) (begin t rows).requires.1.0)
 
-returns : (t : ℕ) → halves-lts.Need-returns (calls t) (halves-at t) halves.Post
-returns t c = one_entry _ _ _ c.before.before.if1.true c.from-base.ensures
+returns : (t : ℕ) → halves-lts.Need-returns-then-n-eq0 (calls t) (halves-at t) halves.Post
+returns t c = one_entry _ _ _ c.before.before.if-n-eq0.true c.from_base.ensures
 
-returns-2 : (t : ℕ) → halves-lts.Need-returns-2 (calls t) (halves-at t) halves.Post
-returns-2 t c = rw c.before.if2.true c.pair.ensures
+returns-2 : (t : ℕ) → halves-lts.Need-returns-then-n-eq1 (calls t) (halves-at t) halves.Post
+returns-2 t c = rw c.before.if-n-eq1.true c.pair.ensures
 
-returns-3 : (t : ℕ) → halves-lts.Need-returns-3 (calls t) (halves-at t) halves.Post
-returns-3 t c = rw c.before.if3.true c.two-pairs.ensures
+returns-3 : (t : ℕ) → halves-lts.Need-returns-then-n-eq2 (calls t) (halves-at t) halves.Post
+returns-3 t c = rw c.before.if-n-eq2.true c.two_pairs.ensures
 
-returns-4 : (t : ℕ) → halves-lts.Need-returns-4 (calls t) (halves-at t) halves.Post
+returns-4 : (t : ℕ) → halves-lts.Need-returns-else-n-eq2 (calls t) (halves-at t) halves.Post
 returns-4 t c =
     let at1 = c.before in
     let at0 = at1.before.before in
-    let rows = at0.before.before in
-    words_joined (more t rows) rows.rows.ensures _ _ (begin t rows).requires.1.1 at0.halves.ensures at1.halves2.ensures
+    let rows = at0.before in
+    words_joined (more t rows) rows.rows-half.ensures _ _ (begin t rows).requires.1.1 at0.halves-at0.ensures at1.halves-at1.ensures
     c.line_at.ensures
 
-pub +halves-spec : {M : Type 1} → statement M
-+halves-spec =
+pub +halves_spec : {M : Type 1} → statement M
++halves_spec =
     close μ-halves λ t.
     halves-lts.spec (calls t) (halves-at t) halves.Post
     (λ c. omega (arith, some c.before.before.before.before.before.requires.1.1))
     (λ c κs. below p _ c.before.before.before.before.before.requires.1.1.below p_pos _)
-    (λ c κs. rw c.if2.true at c.before.before.before.before.before.requires.1)
-    (λ c κs. rw c.if3.true at c.before.before.before.before.before.before.requires.1)
+    (λ c κs. rw c.if-n-eq1.true at c.before.before.before.before.before.requires.1)
+    (λ c κs. rw c.if-n-eq2.true at c.before.before.before.before.before.before.requires.1)
     (search rules)
     (λ c κs. search rules)
-    (λ c. sym (length-take-le _ _ (there t c.before)))
+    (λ c. sym (length-take-le _ _ (there t c)))
     (search rules)
     (search rules)
     (halves-requires t)
-    (λ c. omega (arith, there t c.before.before))
-    (λ c. omega (arith, there t c.before.before))
-    (λ c. omega (arith, there t c.before.before))
-    (λ c. omega (arith, there t c.before.before))
+    (λ c. omega (arith, there t c.before))
+    (λ c. omega (arith, there t c.before))
+    (λ c. omega (arith, there t c.before))
+    (λ c. omega (arith, there t c.before))
     (search rules)
     (search rules)
     (halves-requires-2 t)

@@ -43,71 +43,71 @@ calls t = (
 )
 
 -- where a pair is read
-module _ (t : ℕ) (c : halves-ext-lts.Then2 (calls t) (halves-ext-at t) halves-ext.Post) where
+module _ (t : ℕ) (c : halves-ext-lts.Then-n-eq1 (calls t) (halves-ext-at t) halves-ext.Post) where
   abbrev start : halves-ext-lts.Start (calls t) (halves-ext-at t) halves-ext.Post
   start = c.before.before.before.before.before
 
 -- where the table is split
-module _ (t : ℕ) (c : halves-ext-lts.After-rows (calls t) (halves-ext-at t) halves-ext.Post) where
+module _ (t : ℕ) (c : halves-ext-lts.After-rows-half (calls t) (halves-ext-at t) halves-ext.Post) where
   abbrev begin : halves-ext-lts.Start (calls t) (halves-ext-at t) halves-ext.Post
   begin = c.before.before.before.before.before.before
 
   -- there are variables
   left : begin.args.n ≡ 0 → ⊥
-  left = c.before.before.if1.false
+  left = c.before.before.if-n-eq0.false
 
   more : begin.args.n ≡ suc (begin.args.n - 1)
   more = one_more left
 
   -- the low half is there
-  there : 4 * c.rows.result ≤ length begin.args.entries.now
-  there = half_there_ext more c.rows.ensures begin.pre.1.1
+  there : 4 * c.rows-half.result ≤ length begin.args.entries.now
+  there = half_there_ext more c.rows-half.ensures begin.requires.1.1
 
-line-at-requires : (t : ℕ) → halves-ext-lts.Need-line-at-requires (calls t) (halves-ext-at t) halves-ext.Post
+line-at-requires : (t : ℕ) → halves-ext-lts.Need-line_at-requires (calls t) (halves-ext-at t) halves-ext.Post
 line-at-requires t c κs =
     let pair = c.before.before in
-    (search rules, first (omega (arith, pair.if2.true)) (start t pair).requires.1.0)
+    (search rules, first (omega (arith, pair.if-n-eq1.true)) (start t pair).requires.1.0)
 
-halves-ext-requires : (t : ℕ) → halves-ext-lts.Need-halves-ext-requires (calls t) (halves-ext-at t) halves-ext.Post
+halves-ext-requires : (t : ℕ) → halves-ext-lts.Need-halves_ext-at0-requires (calls t) (halves-ext-at t) halves-ext.Post
 halves-ext-requires t c κs =
-    let rows = c.before in
+    let rows = c in
     let pre = (begin t rows).requires in (
       omega (arith, pre.0, pos_of_ne-zero (left t rows)),
-      (half_ready (more t rows) pre.1.0, low_whole_ext (more t rows) rows.rows.ensures pre.1.1),
+      (half_ready (more t rows) pre.1.0, low_whole_ext (more t rows) rows.rows-half.ensures pre.1.1),
     )
 
-halves-ext-requires-2 : (t : ℕ) → halves-ext-lts.Need-halves-ext-requires-2 (calls t) (halves-ext-at t) halves-ext.Post
+halves-ext-requires-2 : (t : ℕ) → halves-ext-lts.Need-halves_ext-at1-requires (calls t) (halves-ext-at t) halves-ext.Post
 halves-ext-requires-2 t c κs =
-    let rows = c.before.before.before in
+    let rows = c.before.before in
     let pre = (begin t rows).requires in (
       omega (arith, pre.0, pos_of_ne-zero (left t rows)),
-      (half_ready (more t rows) pre.1.0, high_whole_ext (more t rows) rows.rows.ensures pre.1.1),
+      (half_ready (more t rows) pre.1.0, high_whole_ext (more t rows) rows.rows-half.ensures pre.1.1),
     )
 
-line-at-requires-2 : (t : ℕ) → halves-ext-lts.Need-line-at-requires-2 (calls t) (halves-ext-at t) halves-ext.Post
+line-at-requires-2 : (t : ℕ) → halves-ext-lts.Need-line_at-requires-else-n-eq1 (calls t) (halves-ext-at t) halves-ext.Post
 line-at-requires-2 t c κs =
-    let rows = c.before.before.before.before in
+    let rows = c.before.before.before in
     (search rules, first (pos_of_ne-zero (left t rows)) (begin t rows).requires.1.0)
 
-returns : (t : ℕ) → halves-ext-lts.Need-returns (calls t) (halves-ext-at t) halves-ext.Post
-returns t c = one_entry _ _ _ c.before.if1.true c.read.ensures
+returns : (t : ℕ) → halves-ext-lts.Need-returns-then-n-eq0 (calls t) (halves-ext-at t) halves-ext.Post
+returns t c = one_entry _ _ _ c.before.if-n-eq0.true c.read.ensures
 
-returns-2 : (t : ℕ) → halves-ext-lts.Need-returns-2 (calls t) (halves-ext-at t) halves-ext.Post
+returns-2 : (t : ℕ) → halves-ext-lts.Need-returns-then-n-eq1 (calls t) (halves-ext-at t) halves-ext.Post
 returns-2 t c =
     let second = c.before in
     let first = second.before in
-    pair_joined _ _ first.before.if2.true _ first.read2.ensures second.read3.ensures c.line_at.ensures
+    pair_joined _ _ first.before.if-n-eq1.true _ first.read-at0.ensures second.read-at1.ensures c.line_at.ensures
 
-returns-3 : (t : ℕ) → halves-ext-lts.Need-returns-3 (calls t) (halves-ext-at t) halves-ext.Post
+returns-3 : (t : ℕ) → halves-ext-lts.Need-returns-else-n-eq1 (calls t) (halves-ext-at t) halves-ext.Post
 returns-3 t c =
     let at1 = c.before in
     let at0 = at1.before.before in
-    let rows = at0.before.before in
-    elements_joined (more t rows) rows.rows.ensures _ _ (begin t rows).requires.1.1 at0.halves-ext.ensures
-    at1.halves-ext2.ensures c.line-at2.ensures
+    let rows = at0.before in
+    elements_joined (more t rows) rows.rows-half.ensures _ _ (begin t rows).requires.1.1 at0.halves_ext-at0.ensures
+    at1.halves_ext-at1.ensures c.line_at-else-n-eq1.ensures
 
-pub +halves-ext-spec : {M : Type 1} → statement M
-+halves-ext-spec =
+pub +halves_ext_spec : {M : Type 1} → statement M
++halves_ext_spec =
     close μ-halves-ext λ t.
     halves-ext-lts.spec (calls t) (halves-ext-at t) halves-ext.Post
     (λ c κs.
@@ -119,19 +119,19 @@ pub +halves-ext-spec : {M : Type 1} → statement M
     (λ c κs.
     let pair = c.before in
     let w = (start t pair).requires.1.1 in
-    (omega (arith, pair_there w pair.if2.true), w.below))
+    (omega (arith, pair_there w pair.if-n-eq1.true), w.below))
     (line-at-requires t)
     (search rules)
     (λ c κs. search rules)
     (λ c. omega (arith, there t c))
-    (λ c. sym (length-take-le _ _ (there t c.before)))
+    (λ c. sym (length-take-le _ _ (there t c)))
     (search rules)
     (search rules)
     (halves-ext-requires t)
-    (λ c. omega (arith, there t c.before.before))
-    (λ c. omega (arith, there t c.before.before))
-    (λ c. omega (arith, there t c.before.before))
-    (λ c. omega (arith, there t c.before.before))
+    (λ c. omega (arith, there t c.before))
+    (λ c. omega (arith, there t c.before))
+    (λ c. omega (arith, there t c.before))
+    (λ c. omega (arith, there t c.before))
     (search rules)
     (search rules)
     (halves-ext-requires-2 t)

@@ -10,7 +10,7 @@ use Rattle.weigh.proofs.small.pair.Tie as tie
 returns : tie.Need-returns
 returns c =
     let second = c.before in
-    pair_joined _ _ refl _ second.before.before.from-base.ensures second.from-base2.ensures c.line_at.ensures
+    pair_joined _ _ refl _ second.before.before.from_base-at0.ensures second.from_base-at1.ensures c.line_at.ensures
 
 pub pair_spec : {M : Type 1} → statement M
 pair_spec =
