@@ -10,9 +10,9 @@ use Rattle.byte_points.proofs.at_vertex.Tie as tie
 returns : tie.Need-returns
 returns c =
     let zs = c.before.before in
-    c.equality-at-vertex.ensures ∙ ap (λ ws. vertex_answer ws zs.before.before.args.vertex) zs.coordinates.ensures
+    c.equality_at_vertex.ensures ∙ ap (λ ws. vertex_answer ws zs.before.before.args.vertex) zs.coordinates-zs.ensures
 
-pub at-vertex-spec : {M : Type 1} → statement M
-at-vertex-spec =
+pub at_vertex_spec : {M : Type 1} → statement M
+at_vertex_spec =
     tie.close
     (tie.spec (search rules) (search rules) (λ c. simp length-take (omega arith)) (search rules) returns)

@@ -23,9 +23,9 @@ returns : tie.Need-returns
 returns c =
     let room = c.before.before.before in
     let bs = room.before.before.args.point.now in
-    decoded (length bs / 4) room.room.result bs _ (omega arith) (omega arith) c.before.decode.ensures
+    decoded (length bs / 4) room.room-zs.result bs _ (omega arith) (omega arith) c.before.decode.ensures
 
-pub coordinates-spec : {M : Type 1} → statement M
-coordinates-spec =
+pub coordinates_spec : {M : Type 1} → statement M
+coordinates_spec =
     tie.close
     (tie.spec (search rules) (search rules) (λ c. simp length-take (omega arith)) (λ c κs. simp length-take (omega arith)) returns)

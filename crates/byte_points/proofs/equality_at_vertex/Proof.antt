@@ -29,47 +29,47 @@ module _ (point : List ℕ) (y : ℕ) (out : List ℕ) where
   unfolding verdict
   same e = let h = clear (vertex_sizes point out) tt e in rw (whole_words point h.0, h.0, h.1.0, h.1.1.0, h.1.1.1.0)
 
-module _ (told : tie.After-enum-told) where
+module _ (told : tie.In-Accepted) where
   abbrev begin : tie.Start
-  begin = told.before.before.before.before.before.before
+  begin = told.before.before.before.before
 
   accepted : 0 ≡ verdict (vertex_sizes begin.args.point.now begin.args.out.now)
-  accepted = answer_as told.enum_told.given.1 told.before.before.test-vertex.ensures
+  accepted = answer_as told.in-Accepted.is told.before.test_vertex-tested.ensures
 
   ready : Few begin.args.point.now × (length begin.args.out.now ≡ 16 * 1)
   ready = let h = clear _ tt accepted in search (few, sized)
 
-returns : tie.Need-returns
+returns : tie.Need-returns-in-Refused
 unfolding vertex_answer vertex_out
 returns c =
-    let test = c.before.before.before in
-    let a = test.before.before.before.before.args in
+    let test = c.before in
+    let a = test.before.before.before.args in
     refused_by_size (vertex_sizes a.point.now a.out.now) (vertex_words a.point.now a.vertex)
-    (new a.point.now a.vertex a.out.now) _ tt c.before.tested.given.1 test.test-vertex.ensures
+    (new a.point.now a.vertex a.out.now) _ tt c.in-Refused.is test.test_vertex-tested.ensures
 
-returns-2 : tie.Need-returns-2
+returns-2 : tie.Need-returns-in-Refused-evaluation
 unfolding vertex_answer vertex_out on-words.vertex_answer
 returns-2 c =
-    let found = c.before.before.before in
+    let found = c.before in
     let a = (begin found.before).args in
     refused_on_words (vertex_tests a.point.now a.vertex a.out.now) (new a.point.now a.vertex a.out.now) _
-    (same a.point.now a.vertex a.out.now (accepted found.before)) c.before.evaluation.given.0.0
-    (outcome_as c.before.evaluation.given.1 found.at-vertex.ensures)
+    (same a.point.now a.vertex a.out.now (accepted found.before)) c.in-Refused-evaluation.refusal
+    (outcome_as c.in-Refused-evaluation.is found.at_vertex-evaluation.ensures)
 
-returns-3 : tie.Need-returns-3
+returns-3 : tie.Need-returns-in-Value
 unfolding vertex_answer vertex_out on-words.vertex_answer
 returns-3 c =
     let put = c.before.before in
-    let evaluation = put.before.before.before in
-    let found = evaluation.before.before in
+    let evaluation = put.before.before in
+    let found = evaluation.before in
     let a = (begin found.before).args in
     valued (vertex_tests a.point.now a.vertex a.out.now) (new a.point.now a.vertex a.out.now) _
     (same a.point.now a.vertex a.out.now (accepted found.before))
-    (outcome_as evaluation.evaluation2.given.1 found.at-vertex.ensures) put.put-value.ensures
+    (outcome_as evaluation.in-Value.is found.at_vertex-evaluation.ensures) put.put_value.ensures
 
-pub equality-at-vertex-spec : {M : Type 1} → statement M
-equality-at-vertex-spec =
+pub equality_at_vertex_spec : {M : Type 1} → statement M
+equality_at_vertex_spec =
     tie.close
     (tie.spec (search rules) (λ c. search rules) (λ c. search rules) (λ c κs. (ready c).0) (λ c. search rules) (λ c. search rules)
-    (λ c κs. (ready c.before.before.before.before.before).1) (search rules) returns (search rules) returns-2 (search rules)
+    (λ c κs. (ready c.before.before.before).1) (search rules) returns (search rules) returns-2 (search rules)
     returns-3)

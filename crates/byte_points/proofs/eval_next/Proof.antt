@@ -32,47 +32,47 @@ module _ (point other out : List ℕ) where
       let many = h.1.1.1 in
       rw (whole_words point h.0, whole_words other h.1.0, h.0, h.1.0, h.1.1.0, many.0, many.1.0, many.1.1.0, many.1.1.1.0)
 
-module _ (told : tie.After-enum-told) where
+module _ (told : tie.In-Accepted) where
   abbrev begin : tie.Start
-  begin = told.before.before.before.before.before.before.before
+  begin = told.before.before.before.before.before
 
   accepted : 0 ≡ verdict (next_sizes begin.args.point.now begin.args.other.now begin.args.out.now)
-  accepted = answer_as told.enum_told.given.1 told.before.before.test-next.ensures
+  accepted = answer_as told.in-Accepted.is told.before.test_next-tested.ensures
 
   ready : (Few begin.args.point.now × Few begin.args.other.now) × (length begin.args.out.now ≡ 16 * 3)
   ready = let h = clear _ tt accepted in search (few, sized)
 
-returns : tie.Need-returns
+returns : tie.Need-returns-in-Refused
 unfolding next_answer next_out
 returns c =
-    let test = c.before.before.before in
-    let a = test.before.before.before.before.before.args in
+    let test = c.before in
+    let a = test.before.before.before.before.args in
     refused_by_size (next_sizes a.point.now a.other.now a.out.now) (next_words a.point.now a.other.now)
-    (new a.point.now a.other.now a.out.now) _ tt c.before.tested.given.1 test.test-next.ensures
+    (new a.point.now a.other.now a.out.now) _ tt c.in-Refused.is test.test_next-tested.ensures
 
-returns-2 : tie.Need-returns-2
+returns-2 : tie.Need-returns-in-Refused-next
 unfolding next_answer next_out on-words.eval_next_answer
 returns-2 c =
-    let found = c.before.before.before in
+    let found = c.before in
     let a = (begin found.before).args in
     refused_on_words (next_tests a.point.now a.other.now a.out.now) (new a.point.now a.other.now a.out.now) _
-    (same a.point.now a.other.now a.out.now (accepted found.before)) c.before.next.given.0.0
-    (sym (ap on-words.next_outcome c.before.next.given.1) ∙ found.next_of.ensures)
+    (same a.point.now a.other.now a.out.now (accepted found.before)) c.in-Refused-next.refusal
+    (sym (ap on-words.next_outcome c.in-Refused-next.is) ∙ found.next_of-next.ensures)
 
-returns-3 : tie.Need-returns-3
+returns-3 : tie.Need-returns-in-Parts
 unfolding next_answer next_out on-words.eval_next_answer
 returns-3 c =
     let put = c.before.before in
-    let next = put.before.before.before in
-    let found = next.before.before in
+    let next = put.before.before in
+    let found = next.before in
     let a = (begin found.before).args in
     valued (next_tests a.point.now a.other.now a.out.now) (new a.point.now a.other.now a.out.now) _
     (same a.point.now a.other.now a.out.now (accepted found.before))
-    (sym (ap on-words.next_outcome next.next2.given.1) ∙ found.next_of.ensures) put.put_parts.ensures
+    (sym (ap on-words.next_outcome next.in-Parts.is) ∙ found.next_of-next.ensures) put.put_parts.ensures
 
-pub eval-next-spec : {M : Type 1} → statement M
-eval-next-spec =
+pub eval_next_spec : {M : Type 1} → statement M
+eval_next_spec =
     tie.close
     (tie.spec (search rules) (λ c. search rules) (λ c. search rules) (λ c κs. (ready c).0) (λ c. search rules) (λ c. search rules)
-    (λ c κs. (ready c.before.before.before.before.before).1) (search rules) returns (search rules) returns-2 (search rules)
+    (λ c κs. (ready c.before.before.before).1) (search rules) returns (search rules) returns-2 (search rules)
     returns-3)

@@ -10,10 +10,10 @@ use Rattle.byte_points.proofs.next_of.Tie as tie
 returns : tie.Need-returns
 returns c =
     let other = c.before.before.before in
-    c.eval-next.ensures ∙ ap₂ eval_next_answer other.before.coordinates.ensures other.coordinates2.ensures
+    c.eval_next.ensures ∙ ap₂ eval_next_answer other.before.coordinates-zs.ensures other.coordinates-ys.ensures
 
-pub next-of-spec : {M : Type 1} → statement M
-next-of-spec =
+pub next_of_spec : {M : Type 1} → statement M
+next_of_spec =
     tie.close
     (tie.spec (search rules) (search rules) (search rules) (λ c. simp length-take (omega arith)) (search rules)
     (λ c. simp length-take (omega arith)) (search rules) returns)

@@ -16,19 +16,19 @@ returns c =
     let args = whole.before.before.before.before.args in
     gone_through _ tt
     (rw (
-      c.refuse-if7.ensures,
-      lengths.refuse-if6.ensures,
-      other-few.refuse-if5.ensures,
-      few.refuse-if4.ensures,
-      out.refuse-if3.ensures,
-      other.refuse-if2.ensures,
-      whole.refuse-if.ensures,
+      c.refuse_if-7.ensures,
+      lengths.refuse_if-6.ensures,
+      other-few.refuse_if-5.ensures,
+      few.refuse_if-4.ensures,
+      out.refuse_if-3.ensures,
+      other.refuse_if-2.ensures,
+      whole.refuse_if.ensures,
       words_length args.point.now,
       words_length args.other.now,
       words_length args.out.now,
     ))
 
-pub test-next-spec : {M : Type 1} → statement M
-test-next-spec =
+pub test_next_spec : {M : Type 1} → statement M
+test_next_spec =
     tie.close
     (tie.spec (search rules) (search rules) (search rules) (search rules) (search rules) (search rules) (search rules) returns)

@@ -13,13 +13,13 @@ returns c =
     let args = whole.before.before.before.args in
     gone_through _ tt
     (rw (
-      c.refuse-if4.ensures,
-      few.refuse-if3.ensures,
-      out.refuse-if2.ensures,
-      whole.refuse-if.ensures,
+      c.refuse_if-4.ensures,
+      few.refuse_if-3.ensures,
+      out.refuse_if-2.ensures,
+      whole.refuse_if.ensures,
       words_length args.point.now,
       words_length args.out.now,
     ))
 
-pub test-vertex-spec : {M : Type 1} → statement M
-test-vertex-spec = tie.close (tie.spec (search rules) (search rules) (search rules) (search rules) returns)
+pub test_vertex_spec : {M : Type 1} → statement M
+test_vertex_spec = tie.close (tie.spec (search rules) (search rules) (search rules) (search rules) returns)

@@ -12,45 +12,45 @@ use Rattle.eq_batch.proofs.Rooms.{room_zeros}
 use Rattle.eq_batch.proofs.eval_eq_batch.Statement.{statement}
 use Rattle.eq_batch.proofs.eval_eq_batch.Tie as tie
 
-returns : tie.Need-returns
+returns : tie.Need-returns-then-scalars-eq0
 unfolding batch_answer set_out
-returns c = rw (eq-eqb _ _ c.if1.true) (refl, refl)
+returns c = rw (eq-eqb _ _ c.if-scalars-eq0.true) (refl, refl)
 
-module _ (told : tie.After-enum-told) where
+module _ (told : tie.In-Accepted) where
   abbrev begin : tie.Start
-  begin = told.before.before.before.before.before.before.before.before
+  begin = told.before.before.before.before.before.before
 
   size : length begin.args.out.now ≡ 4 * 2 ^ begin.args.n
   size =
-      let h = accepted _ tt told.enum_told.given.1 told.before.before.test-batch.ensures in
+      let h = accepted _ tt told.in-Accepted.is told.before.test_batch-tested.ensures in
       search says
 
-add-points-requires : tie.Need-add-points-requires
+add-points-requires : tie.Need-add_points-requires
 add-points-requires c κs =
     let cleared = c.before.before.before in
     let told = cleared.before.before in
-    let h = accepted _ tt told.enum_told.given.1 told.before.before.test-batch.ensures in
+    let h = accepted _ tt told.in-Accepted.is told.before.test_batch-tested.ensures in
     (search says, room_zeros _ _ (size told) cleared.clear.ensures)
 
-returns-2 : tie.Need-returns-2
+returns-2 : tie.Need-returns-in-Refused
 unfolding batch_answer set_out
 returns-2 c =
-    let tested = c.before.before.before in
-    rw (ne_eqb _ _ tested.before.before.if1.false, ← answer_as c.before.tested.given.1 tested.test-batch.ensures, kept)
+    let tested = c.before in
+    rw (ne_eqb _ _ tested.before.if-scalars-eq0.false, ← answer_as c.in-Refused.is tested.test_batch-tested.ensures, kept)
     (refl, refl)
 
-returns-3 : tie.Need-returns-3
+returns-3 : tie.Need-returns-in-Accepted
 unfolding batch_answer set_out
 returns-3 c =
     let sum = c.before.before in
     let cleared = sum.before.before.before.before in
     let told = cleared.before.before in
-    let tested = told.before.before in
-    rw (ne_eqb _ _ tested.before.before.if1.false, ← answer_as told.enum_told.given.1 tested.test-batch.ensures)
-    (refl, zeros_table _ _ (size told) cleared.clear.ensures _ _ sum.add-points.ensures)
+    let tested = told.before in
+    rw (ne_eqb _ _ tested.before.if-scalars-eq0.false, ← answer_as told.in-Accepted.is tested.test_batch-tested.ensures)
+    (refl, zeros_table _ _ (size told) cleared.clear.ensures _ _ sum.add_points.ensures)
 
-pub eval-eq-batch-spec : {M : Type 1} → statement M
-eval-eq-batch-spec =
+pub eval_eq_batch_spec : {M : Type 1} → statement M
+eval_eq_batch_spec =
     tie.close
     (tie.spec returns (search rules) (λ c. search rules) (λ c. search rules) (search rules) add-points-requires (search rules)
     returns-2 (search rules) returns-3)

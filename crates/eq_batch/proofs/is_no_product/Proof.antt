@@ -18,19 +18,19 @@ divided count n w pos d = go (eqb (count / w) n) refl
     go true e = sym (eq-eqb count (n * w) (omega (arith, div-add-mod' count w, ap (λ q. q * w) (eqb-true (count / w) n e))))
     go false e = sym (ne_eqb count (n * w) (λ q. eqb-false (count / w) n e (div-eq_of_eq-mul_left pos q)))
 
-returns : tie.Need-returns
-returns c = rw (c.if1.true, mul-zero)
+returns : tie.Need-returns-then-w-eq0
+returns c = rw (c.if-w-eq0.true, mul-zero)
 
-returns-2 : tie.Need-returns-2
+returns-2 : tie.Need-returns-then-count-w-ne0
 returns-2 c =
     let start = c.before.before in
-    let d : start.args.count ≢ start.args.n * start.args.w = λ e. c.if2.true (ap (λ x. x % start.args.w) e ∙ mul-mod_left _ _) in
+    let d : start.args.count ≢ start.args.n * start.args.w = λ e. c.if-count-w-ne0.true (ap (λ x. x % start.args.w) e ∙ mul-mod_left _ _) in
     sym (ap not (ne_eqb _ _ d))
 
-returns-3 : tie.Need-returns-3
+returns-3 : tie.Need-returns
 returns-3 c =
     let start = c.before.before in
     ap not (divided start.args.count start.args.n start.args.w (omega arith) (omega arith))
 
-pub is-no-product-spec : {M : Type 1} → statement M
-is-no-product-spec = tie.close (tie.spec returns (search rules) returns-2 (search rules) returns-3)
+pub is_no_product_spec : {M : Type 1} → statement M
+is_no_product_spec = tie.close (tie.spec returns (search rules) returns-2 (search rules) returns-3)

@@ -14,21 +14,21 @@ returns c =
     let whole = few.before.before in
     gone_through _ tt
     (rw (
-      by_test _ _ c.refuse-if10.ensures c.before.both.ensures,
-      c.before.before.unreduced3.ensures,
-      by_test _ _ added.refuse-if9.ensures added.before.unreduced2.ensures,
-      by_test _ _ below.refuse-if8.ensures below.before.unreduced.ensures,
-      by_test _ _ rows.refuse-if7.ensures rows.before.rows-differ.ensures,
-      by_test _ _ counts.refuse-if6.ensures counts.before.is-no-product.ensures,
-      few.refuse-if5.ensures,
-      few.before.refuse-if4.ensures,
-      by_test _ _ whole.refuse-if3.ensures whole.before.splits3.ensures,
-      by_test _ _ whole.before.before.refuse-if2.ensures whole.before.before.before.splits2.ensures,
-      by_test _ _ whole.before.before.before.before.refuse-if.ensures whole.before.before.before.before.before.splits.ensures,
+      by_test _ _ c.refuse_if-10.ensures c.before.both.ensures,
+      c.before.before.unreduced-3.ensures,
+      by_test _ _ added.refuse_if-9.ensures added.before.unreduced-2.ensures,
+      by_test _ _ below.refuse_if-8.ensures below.before.unreduced.ensures,
+      by_test _ _ rows.refuse_if-7.ensures rows.before.rows_differ.ensures,
+      by_test _ _ counts.refuse_if-6.ensures counts.before.is_no_product.ensures,
+      few.refuse_if-5.ensures,
+      few.before.refuse_if-4.ensures,
+      by_test _ _ whole.refuse_if-3.ensures whole.before.splits-3.ensures,
+      by_test _ _ whole.before.before.refuse_if-2.ensures whole.before.before.before.splits-2.ensures,
+      by_test _ _ whole.before.before.before.before.refuse_if.ensures whole.before.before.before.before.before.splits.ensures,
     ))
 
-pub test-batch-spec : {M : Type 1} → statement M
-test-batch-spec =
+pub test_batch_spec : {M : Type 1} → statement M
+test_batch_spec =
     tie.close
     (tie.spec (search rules) (search rules) (search rules) (search rules) (search rules) (search rules) (search rules)
     (search rules) (search rules) (search rules) (search rules) (search rules) (search rules) (search rules) (search rules)

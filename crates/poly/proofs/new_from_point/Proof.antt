@@ -12,21 +12,21 @@ fill-requires : tie.Need-fill-requires
 unfolding new_answer
 fill-requires c κs =
     let told = c.before in
-    let h = accepted _ tt told.enum_told.given.1 told.before.before.test-scaled.ensures in
+    let h = accepted _ tt told.in-Accepted.is told.before.test_scaled-tested.ensures in
     search point-says
 
-returns : tie.Need-returns
+returns : tie.Need-returns-in-Refused
 unfolding new_out
-returns c = rw (← answer_as c.before.tested.given.1 c.before.before.before.test-scaled.ensures, kept) (refl, refl)
+returns c = rw (← answer_as c.in-Refused.is c.before.test_scaled-tested.ensures, kept) (refl, refl)
 
-returns-2 : tie.Need-returns-2
+returns-2 : tie.Need-returns-in-Accepted
 unfolding new_out
 returns-2 c =
     let fill = c.before.before in
     let told = fill.before.before in
-    rw (← answer_as told.enum_told.given.1 told.before.before.test-scaled.ensures) (refl, fill.fill.ensures)
+    rw (← answer_as told.in-Accepted.is told.before.test_scaled-tested.ensures) (refl, fill.fill.ensures)
 
-pub new-from-point-spec : {M : Type 1} → statement M
-new-from-point-spec =
+pub new_from_point_spec : {M : Type 1} → statement M
+new_from_point_spec =
     tie.close
     (tie.spec (search rules) (λ c. search rules) (λ c. search rules) fill-requires (search rules) returns (search rules) returns-2)

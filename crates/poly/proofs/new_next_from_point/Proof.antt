@@ -15,24 +15,24 @@ fill-requires : tie.Need-fill-requires
 unfolding table_answer
 fill-requires c κs =
     let told = c.before.before in
-    let h = accepted _ tt told.enum_told.given.1 told.before.before.test_table.ensures in
+    let h = accepted _ tt told.in-Accepted.is told.before.test_table-tested.ensures in
     search point-says
 
 rows-requires : tie.Need-rows-requires
 unfolding table_answer
 rows-requires c κs =
     let told = c.before.before.before.before.before.before in
-    let h = accepted _ tt told.enum_told.given.1 told.before.before.test_table.ensures in
+    let h = accepted _ tt told.in-Accepted.is told.before.test_table-tested.ensures in
     search point-says
 
 succeed-requires : tie.Need-succeed-requires
 succeed-requires c κs = weights _ _ _ c.rows.ensures c.before.before.before.before.fill.ensures
 
-returns : tie.Need-returns
+returns : tie.Need-returns-in-Refused
 unfolding next_out
-returns c = rw (← answer_as c.before.tested.given.1 c.before.before.before.test_table.ensures, kept) (refl, refl)
+returns c = rw (← answer_as c.in-Refused.is c.before.test_table-tested.ensures, kept) (refl, refl)
 
-returns-2 : tie.Need-returns-2
+returns-2 : tie.Need-returns-in-Accepted
 unfolding next_out
 returns-2 c =
     let succeed = c.before.before in
@@ -40,14 +40,14 @@ returns-2 c =
     let fill = rows.before.before.before.before in
     let one = fill.before in
     let told = one.before.before in
-    rw (← answer_as told.enum_told.given.1 told.before.before.test_table.ensures) (
+    rw (← answer_as told.in-Accepted.is told.before.test_table-tested.ensures) (
       refl,
       next_table _ _ _ _ _ (elements_length _ _ _) one.one.ensures fill.fill.ensures rows.rows.ensures
           succeed.succeed.ensures,
     )
 
-pub new-next-from-point-spec : {M : Type 1} → statement M
-new-next-from-point-spec =
+pub new_next_from_point_spec : {M : Type 1} → statement M
+new_next_from_point_spec =
     tie.close
     (tie.spec (search rules) (λ c. search rules) (λ c. search rules) (search rules) fill-requires rows-requires succeed-requires
     (search rules) returns (search rules) returns-2)

@@ -8,13 +8,13 @@ use Rattle.poly.proofs.succeed.Tie as tie
 add-requires : tie.Need-add-requires
 add-requires c κs =
     let get2 = c.before in
-    let put = get2.before.before.before.before in
+    let put = get2.before.before.before in
     let zero = put.before in
     let shift = zero.before.before.before.before in
     let get = shift.before.before in
-    let begin = get.before.before.before in (
-      (kept _ _ begin.requires _ shift.shift.ensures _ zero.zero.ensures put.put.ensures get2.get2.ensures).below,
-      (holds_at _ begin.requires.below _ get.get.ensures).below,
+    let begin = get.before.before in (
+      (kept _ _ begin.requires _ shift.shift.ensures _ zero.zero.ensures put.put.ensures get2.get-kept.ensures).below,
+      (holds_at _ begin.requires.below _ get.get-last.ensures).below,
     )
 
 returns : tie.Need-returns
@@ -22,16 +22,16 @@ returns c =
     let put2 = c.before.before in
     let add = put2.before in
     let get2 = add.before.before in
-    let put = get2.before.before.before.before in
+    let put = get2.before.before.before in
     let zero = put.before in
     let shift = zero.before.before.before.before in
     let get = shift.before.before in
-    let begin = get.before.before.before in
-    succeeded _ _ begin.requires _ shift.shift.ensures _ zero.zero.ensures _ _ _ get.get.ensures put.put.ensures
-    get2.get2.ensures add.add.ensures put2.put2.ensures
+    let begin = get.before.before in
+    succeeded _ _ begin.requires _ shift.shift.ensures _ zero.zero.ensures _ _ _ get.get-last.ensures put.put.ensures
+    get2.get-kept.ensures add.add.ensures put2.put-2.ensures
 
-pub succeed-spec : {M : Type 1} → statement M
-succeed-spec =
+pub succeed_spec : {M : Type 1} → statement M
+succeed_spec =
     tie.close
     (tie.spec
     (search rules)

@@ -15,16 +15,16 @@ returns c =
     let point = out.before.before in
     gone_through _ tt
     (rw (
-      by_test _ _ c.refuse-if6.ensures c.before.unreduced2.ensures,
-      by_test _ _ below.refuse-if5.ensures below.before.unreduced.ensures,
-      by_test _ _ counted.refuse-if4.ensures counted.before.rows-differ.ensures,
-      by_test _ _ few.refuse-if3.ensures few.before.too_many.ensures,
-      by_test _ _ out.refuse-if2.ensures out.before.splits2.ensures,
-      by_test _ _ point.refuse-if.ensures point.before.splits.ensures,
+      by_test _ _ c.refuse_if-6.ensures c.before.unreduced-2.ensures,
+      by_test _ _ below.refuse_if-5.ensures below.before.unreduced.ensures,
+      by_test _ _ counted.refuse_if-4.ensures counted.before.rows_differ.ensures,
+      by_test _ _ few.refuse_if-3.ensures few.before.too_many.ensures,
+      by_test _ _ out.refuse_if-2.ensures out.before.splits-2.ensures,
+      by_test _ _ point.refuse_if.ensures point.before.splits.ensures,
     ))
 
-pub test-scaled-spec : {M : Type 1} → statement M
-test-scaled-spec =
+pub test_scaled_spec : {M : Type 1} → statement M
+test_scaled_spec =
     tie.close
     (tie.spec (search rules) (search rules) (search rules) (search rules) (search rules) (search rules) (search rules)
     (search rules) (search rules) (search rules) (λ c. search rules) (search rules) (search rules) returns)

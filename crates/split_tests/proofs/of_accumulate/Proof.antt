@@ -12,16 +12,16 @@ returns c =
     let whole = value.before in
     gone_through _ tt
     (rw (
-      c.refuse-if2.ensures,
+      c.refuse_if.ensures,
       c.before.unreduced.ensures,
       value.value.ensures,
-      whole.refuse-if.ensures,
+      whole.refuse_if-whole.ensures,
       whole.before.splits.ensures,
       whole.before.before.split.ensures,
     ))
 
-pub of-accumulate-spec : {M : Type 1} → statement M
-of-accumulate-spec =
+pub of_accumulate_spec : {M : Type 1} → statement M
+of_accumulate_spec =
     tie.close
     (tie.spec (search rules) (search rules) (search rules) (search rules) (λ c. search rules) (search rules) (search rules)
     returns)

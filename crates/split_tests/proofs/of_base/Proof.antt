@@ -9,5 +9,5 @@ returns : tie.Need-returns
 unfolding base_answer
 returns c = gone_through _ tt (rw (c.value.ensures, c.before.split.ensures))
 
-pub of-base-spec : {M : Type 1} → statement M
-of-base-spec = tie.close (tie.spec (search rules) (search rules) returns)
+pub of_base_spec : {M : Type 1} → statement M
+of_base_spec = tie.close (tie.spec (search rules) (search rules) returns)

@@ -10,7 +10,7 @@ unfolding ext_answer
 returns c =
     let whole = c.before in
     gone_through _ tt
-    (rw (c.value.ensures, whole.refuse-if.ensures, whole.before.splits.ensures, whole.before.before.split.ensures))
+    (rw (c.value.ensures, whole.refuse_if-whole.ensures, whole.before.splits.ensures, whole.before.before.split.ensures))
 
-pub of-ext-spec : {M : Type 1} → statement M
-of-ext-spec = tie.close (tie.spec (search rules) (search rules) (search rules) (search rules) returns)
+pub of_ext_spec : {M : Type 1} → statement M
+of_ext_spec = tie.close (tie.spec (search rules) (search rules) (search rules) (search rules) returns)

@@ -15,21 +15,21 @@ returns c =
     gone_through _ tt
     (rw (
       c.words.ensures,
-      rows.refuse-if4.ensures,
-      rows.before.rows-differ.ensures,
+      rows.refuse_if-sized.ensures,
+      rows.before.rows_differ.ensures,
       rows.before.before.remaining.ensures,
-      work.refuse-if3.ensures,
+      work.refuse_if-3.ensures,
       work.before.differs.ensures,
-      above.refuse-if2.ensures,
-      above.before.refuse-entries.ensures,
-      whole.refuse-if.ensures,
+      above.refuse_if-2.ensures,
+      above.before.refuse_entries.ensures,
+      whole.refuse_if.ensures,
       whole.before.splits.ensures,
       whole.before.before.split.ensures,
-      whole.before.before.before.variables.ensures,
+      whole.before.before.before.variables-n.ensures,
     ))
 
-pub of-fold-spec : {M : Type 1} → statement M
-of-fold-spec =
+pub of_fold_spec : {M : Type 1} → statement M
+of_fold_spec =
     tie.close
     (tie.spec (search rules) (search rules) (search rules) (search rules) (search rules) (search rules) (search rules)
     (search rules) (search rules) (search rules) (search rules) (search rules) returns)

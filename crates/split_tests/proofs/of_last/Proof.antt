@@ -11,19 +11,19 @@ returns c =
     let many = work.before.before in
     gone_through _ tt
     (rw (
-      c.refuse-if4.ensures,
-      c.before.unreduced2.ensures,
-      point.refuse-if3.ensures,
+      c.refuse_if-4.ensures,
+      c.before.unreduced-2.ensures,
+      point.refuse_if-3.ensures,
       point.before.unreduced.ensures,
-      work.refuse-if2.ensures,
+      work.refuse_if-2.ensures,
       work.before.differs.ensures,
-      many.refuse-if.ensures,
+      many.refuse_if.ensures,
       many.before.too_many.ensures,
       many.before.before.split.ensures,
     ))
 
-pub of-last-spec : {M : Type 1} → statement M
-of-last-spec =
+pub of_last_spec : {M : Type 1} → statement M
+of_last_spec =
     tie.close
     (tie.spec (search rules) (search rules) (search rules) (search rules) (search rules) (search rules) (search rules)
     (λ c. search rules) (search rules) (search rules) returns)

@@ -6,7 +6,7 @@ use Rattle.split_tests.proofs.split.Tie as tie
 returns : tie.Need-returns
 returns c =
     let first = c.before.before in
-    rw (c.refuse-if2.ensures, c.before.splits2.ensures, first.refuse-if.ensures, first.before.splits.ensures)
+    rw (c.refuse_if-2.ensures, c.before.splits-2.ensures, first.refuse_if.ensures, first.before.splits.ensures)
 
-pub split-spec : {M : Type 1} → statement M
-split-spec = tie.close (tie.spec (search rules) (search rules) (search rules) (search rules) returns)
+pub split_spec : {M : Type 1} → statement M
+split_spec = tie.close (tie.spec (search rules) (search rules) (search rules) (search rules) returns)

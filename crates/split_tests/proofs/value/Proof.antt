@@ -9,11 +9,11 @@ returns c =
     let count = work.before.before in
     rw (
       c.words.ensures,
-      work.refuse-if2.ensures,
+      work.refuse_if-sized.ensures,
       work.before.differs.ensures,
-      count.refuse-if.ensures,
+      count.refuse_if.ensures,
       count.before.variables.ensures,
-      count.before.before.refuse-entries.ensures,
+      count.before.before.refuse_entries.ensures,
     )
 
 pub value_spec : {M : Type 1} → statement M

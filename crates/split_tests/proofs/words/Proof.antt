@@ -8,16 +8,16 @@ returns c =
     let point = c.before.before.before in
     let table = point.before.before in
     rw (
-      c.refuse-if3.ensures,
-      c.before.unreduced3.ensures,
-      point.refuse-if2.ensures,
-      point.before.unreduced2.ensures,
-      table.refuse-if.ensures,
+      c.refuse_if-3.ensures,
+      c.before.unreduced-3.ensures,
+      point.refuse_if-2.ensures,
+      point.before.unreduced-2.ensures,
+      table.refuse_if.ensures,
       table.before.unreduced.ensures,
     )
 
-pub words-spec : {M : Type 1} → statement M
-words-spec =
+pub words_spec : {M : Type 1} → statement M
+words_spec =
     tie.close
     (tie.spec (search rules) (search rules) (search rules) (search rules) (λ c. search rules) (search rules) (search rules)
     returns)

@@ -13,34 +13,34 @@ use Rattle.poly.specs.Values.{base_tests, eval_next_base_answer}
 use Rattle.poly.proofs.value.eval_next_base.Statement.{statement}
 use Rattle.poly.proofs.value.eval_next_base.Tie as tie
 
-module _ (test : tie.After-test-value) where
+module _ (test : tie.After-test_value-tested) where
   abbrev begin : tie.Start
   begin = test.before.before.before.before.before
 
   fits : length begin.args.table.now < 2 ^ 64
   fits = omega arith
 
-  tested : answer test.test-value.result ≡ verdict (base_tests begin.args.table.now begin.args.point.now)
+  tested : answer test.test_value-tested.result ≡ verdict (base_tests begin.args.table.now begin.args.point.now)
   tested = gone_through _ tt (cc)
 
-next-value-requires : tie.Need-next-value-requires
+next-value-requires : tie.Need-next_value-requires
 next-value-requires c κs =
-    let b = fits c.before.before in
-    let h = accepted _ tt c.enum_told.given.1 (tested c.before.before) in
+    let b = fits c.before in
+    let h = accepted _ tt c.in-Accepted.is (tested c.before) in
     search point-says
 
-returns : tie.Need-returns
+returns : tie.Need-returns-in-Refused
 unfolding eval_next_base_answer
-returns c = refused_as _ c.before.tested.given.1 (tested c.before.before.before)
+returns c = refused_as _ c.in-Refused.is (tested c.before)
 
-returns-2 : tie.Need-returns-2
+returns-2 : tie.Need-returns-in-Accepted
 unfolding eval_next_base_answer
 returns-2 c =
     let told = c.before.before in
-    evaluated_as _ _ told.enum_told.given.1 (tested told.before.before) c.before.next-value.ensures c.value.ensures
+    evaluated_as _ _ told.in-Accepted.is (tested told.before) c.before.next_value.ensures c.value.ensures
 
-pub eval-next-base-spec : {M : Type 1} → statement M
-eval-next-base-spec =
+pub eval_next_base_spec : {M : Type 1} → statement M
+eval_next_base_spec =
     tie.close
     (tie.spec (search rules) (search rules) (search rules) (λ c. search rules) (λ c. search rules) next-value-requires (search rules)
     returns returns-2)

@@ -18,10 +18,10 @@ returns c =
     let own = one.before.before in
     let row = own.before.before in
     let pre = row.before.before.before.requires in
-    next_sum pre.1 _ _ row.at_row.ensures own.mul-base.ensures one.one.ensures sum.weigh.ensures c.add.ensures
+    next_sum pre.1 _ _ row.at_row.ensures own.mul_base-own.ensures one.one.ensures sum.weigh.ensures c.add.ensures
 
-pub next-value-spec : {M : Type 1} → statement M
-next-value-spec =
+pub next_value_spec : {M : Type 1} → statement M
+next_value_spec =
     tie.close
     (tie.spec
     (λ c. omega (arith, some c.before.before.requires.1))

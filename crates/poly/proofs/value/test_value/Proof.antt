@@ -8,16 +8,16 @@ returns c =
     let table = c.before.before in
     let count = table.before.before in
     rw (
-      c.refuse-if3.ensures,
-      c.before.unreduced2.ensures,
-      table.refuse-if2.ensures,
+      c.refuse_if-3.ensures,
+      c.before.unreduced-2.ensures,
+      table.refuse_if-2.ensures,
       table.before.unreduced.ensures,
-      count.refuse-if.ensures,
+      count.refuse_if.ensures,
       count.before.variables.ensures,
-      count.before.before.refuse-entries.ensures,
+      count.before.before.refuse_entries.ensures,
     )
 
-pub test-value-spec : {M : Type 1} → statement M
-test-value-spec =
+pub test_value_spec : {M : Type 1} → statement M
+test_value_spec =
     tie.close
     (tie.spec (search rules) (search rules) (search rules) (search rules) (search rules) (search rules) (search rules) returns)
