@@ -3,20 +3,20 @@ use borrow.Author.Rules.{rules}
 use Rattle.piece.proofs.fold.Statement.{statement}
 use Rattle.piece.proofs.fold.Tie as tie
 
-by-groups-requires : tie.Need-by-groups-requires
+by-groups-requires : tie.Need-by_groups-requires
 by-groups-requires c κs =
     let told = c.before in
-    let begin = told.before.before.before.before.before.before in
-    (begin.requires, told.before.before.enum-told2.given.1, rw told.enum-told3.given.1)
+    let begin = told.before.before.before.before in
+    (begin.requires, told.before.in-Suffix.is, rw told.in-Plain.is)
 
-by-groups-requires-2 : tie.Need-by-groups-requires-2
+by-groups-requires-2 : tie.Need-by_groups-requires-in-Shifted
 by-groups-requires-2 c κs =
     let told = c.before in
-    let begin = told.before.before.before.before.before.before in
-    (begin.requires, told.before.before.enum-told2.given.1, rw told.enum-told4.given.1)
+    let begin = told.before.before.before.before in
+    (begin.requires, told.before.in-Suffix.is, rw told.in-Shifted.is)
 
-pub fold-spec : {M : Type 1} → statement M
-fold-spec =
+pub fold_spec : {M : Type 1} → statement M
+fold_spec =
     tie.close
     (tie.spec
     (λ c. search rules)

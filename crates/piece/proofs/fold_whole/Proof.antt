@@ -16,5 +16,5 @@ returns c =
     (c.before.before.add.ensures
     ∙ ap (gained_by begin.args.plan 0 begin.args.table.now) c.before.before.before.before.before.before.clear.ensures)
 
-pub fold-whole-spec : {M : Type 1} → statement M
-fold-whole-spec = tie.close (tie.spec (λ c κs. search rules) add-requires (λ c. search rules) returns)
+pub fold_whole_spec : {M : Type 1} → statement M
+fold_whole_spec = tie.close (tie.spec (λ c κs. search rules) add-requires (λ c. search rules) returns)

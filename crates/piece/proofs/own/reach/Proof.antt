@@ -8,5 +8,5 @@ returns : tie.Need-returns
 unfolding reached
 returns c = rw (c.min.ensures, c.before.before.before.remaining.ensures)
 
-pub reach-spec : {M : Type 1} → statement M
-reach-spec = tie.close (tie.spec (λ c κs. search rules) (λ c. search rules) (λ c. search rules) (λ c. search rules) (λ c κs. search rules) returns)
+pub reach_spec : {M : Type 1} → statement M
+reach_spec = tie.close (tie.spec (λ c κs. search rules) (λ c. search rules) (λ c. search rules) (λ c. search rules) (λ c κs. search rules) returns)
