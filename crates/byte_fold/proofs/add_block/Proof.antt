@@ -13,22 +13,22 @@ use Rattle.byte_fold.proofs.Blocks.{takes, added}
 use Rattle.byte_fold.proofs.add_block.Statement.{statement}
 use Rattle.byte_fold.proofs.add_block.Tie as tie
 
-enough : tie.Need-array-borrow-prefix-words
+enough : tie.Need-slice_bounds-words-end
 enough c = search rules
 
-module _ (c : tie.After-room) where
+module _ (c : tie.After-room-words) where
   abbrev begin : tie.Start
   begin = c.before.before.before
 
   -- the words lent to `gather`
-  lent : length (take begin.args.count c.room.result) ≡ begin.args.count
-  lent = length-take-le _ c.room.result (enough c)
+  lent : length (take begin.args.count c.room-words.result) ≡ begin.args.count
+  lent = length-take-le _ c.room-words.result (enough c)
 
 gather-requires : tie.Need-gather-requires
-gather-requires c κs = let pre = (begin c.before).pre in (pre.0.0, rw (lent c.before) pre.0.1)
+gather-requires c κs = let pre = (begin c.before).requires in (pre.0.0, rw (lent c.before) pre.0.1)
 
 module _ (c : tie.After-gather) where
-  abbrev room : tie.After-room
+  abbrev room : tie.After-room-words
   room = c.before.before
 
   abbrev from : tie.Start
@@ -36,7 +36,7 @@ module _ (c : tie.After-gather) where
 
   -- the block that comes back
   abbrev block : List ℕ
-  block = c.gather.new.1.1.1.0
+  block = c.gather.new.block
 
   gathered : block ≡ block_at from.args.section (words from.args.table.now) from.args.at from.args.count
   gathered = rw (lent room) at c.gather.ensures
@@ -45,11 +45,11 @@ module _ (c : tie.After-gather) where
   size = ap length gathered ∙ first_length _ _
 
   -- it stands at the front of the array
-  front : take from.args.count (block ++ drop from.args.count room.room.result) ≡ block
+  front : take from.args.count (block ++ drop from.args.count room.room-words.result) ≡ block
   front = take_at block _ from.args.count size
 
-  enough-after : from.args.count ≤ length (block ++ drop from.args.count room.room.result)
-  enough-after = omega (arith, length-append block (drop from.args.count room.room.result), size)
+  enough-after : from.args.count ≤ length (block ++ drop from.args.count room.room-words.result)
+  enough-after = omega (arith, length-append block (drop from.args.count room.room-words.result), size)
 
 add-requires : tie.Need-add-requires
 add-requires c κs =
@@ -64,8 +64,8 @@ returns c =
     let pre = (from gather).requires in
     added pre.0.0 pre.0.1 (gathered gather) pre.1 (rw (front gather) at add.add.ensures)
 
-pub add-block-spec : {M : Type 1} → statement M
-add-block-spec =
+pub add_block_spec : {M : Type 1} → statement M
+add_block_spec =
     tie.close
     (tie.spec (search rules) enough (λ c. sym (lent c.before)) gather-requires (λ c. enough-after c.before.before)
     (λ c. sym (ap length (front c.before.before.before) ∙ size c.before.before.before)) add-requires (search rules) returns)

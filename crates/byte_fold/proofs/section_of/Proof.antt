@@ -6,5 +6,5 @@ use Rattle.byte_fold.proofs.section_of.Tie as tie
 returns : tie.Need-returns
 returns c = rw c.rows.ensures
 
-pub section-of-spec : {M : Type 1} → statement M
-section-of-spec = tie.close (tie.spec (search rules) (search rules) (search rules) returns)
+pub section_of_spec : {M : Type 1} → statement M
+section_of_spec = tie.close (tie.spec (search rules) (search rules) (search rules) returns)

@@ -4,5 +4,5 @@ use Rattle.frames.proofs.Counting.{counts}
 use Rattle.frames.proofs.count_of.Statement.{statement}
 use Rattle.frames.proofs.count_of.Tie as tie
 
-pub count-of-spec : {M : Type 1} → statement M
-count-of-spec = tie.close (tie.spec (search rules) (λ c. counts _ (search rules) c.min.ensures))
+pub count_of_spec : {M : Type 1} → statement M
+count_of_spec = tie.close (tie.spec (search rules) (λ c. counts _ (search rules) c.min.ensures))

@@ -5,4 +5,4 @@ use Rattle.frames.proofs.open.Tie as tie
 
 pub open_spec : {M : Type 1} → statement M
 open_spec =
-    tie.close (tie.spec (search rules) (λ c. rw c.session-of.ensures))
+    tie.close (tie.spec (search rules) (λ c. rw c.session_of.ensures))

@@ -6,5 +6,5 @@ use Rattle.frames.proofs.session_of.Tie as tie
 returns : tie.Need-returns
 returns c = rw c.new.ensures
 
-pub session-of-spec : {M : Type 1} → statement M
-session-of-spec = tie.close (tie.spec (search rules) (λ c κs. search rules) returns)
+pub session_of_spec : {M : Type 1} → statement M
+session_of_spec = tie.close (tie.spec (search rules) (λ c κs. search rules) returns)

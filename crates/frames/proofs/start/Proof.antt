@@ -6,7 +6,7 @@ use Rattle.frames.proofs.start.Tie as tie
 
 returns : tie.Need-returns
 unfolding started
-returns c = rw c.session-of.ensures
+returns c = rw c.session_of.ensures
 
 pub start_spec : {M : Type 1} → statement M
 start_spec = tie.close (tie.spec (search rules) returns)

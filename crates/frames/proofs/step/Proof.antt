@@ -10,23 +10,23 @@ use Rattle.frames.proofs.step.Tie as tie
 take-requires : tie.Need-take-requires
 take-requires c κs =
     let told = c.before in
-    let tested = told.before.before in
+    let tested = told.before in
     record {
       ready = tested.before.before.requires;
-      accepted = sym (answer_as told.enum_told.given.1 tested.test-line.ensures);
+      accepted = sym (answer_as told.in-Accepted.is tested.test_line-tested.ensures);
     }
 
-returns : tie.Need-returns
+returns : tie.Need-returns-in-Refused
 returns c =
-    let told = c.before in
-    let tested = told.before.before in
-    refused _ _ _ tested.test-line.ensures told.tested.given.1 tested.before.before.requires
+    let told = c in
+    let tested = told.before in
+    refused _ _ _ tested.test_line-tested.ensures told.in-Refused.is tested.before.before.requires
 
-returns-2 : tie.Need-returns-2
+returns-2 : tie.Need-returns-in-Accepted
 returns-2 c =
     let took = c.before.before in
     let told = took.before.before in
-    accepted _ _ _ told.before.before.test-line.ensures told.enum_told.given.1 took.take.ensures
+    accepted _ _ _ told.before.test_line-tested.ensures told.in-Accepted.is took.take.ensures
 
 pub step_spec : {M : Type 1} → statement M
 step_spec =

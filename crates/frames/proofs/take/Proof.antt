@@ -6,17 +6,17 @@ use Rattle.frames.proofs.Keeping.{hands_coordinate, took}
 use Rattle.frames.proofs.take.Statement.{statement}
 use Rattle.frames.proofs.take.Tie as tie
 
-returns : tie.Need-returns
+returns : tie.Need-returns-in-Open
 returns c =
     let cleared = c.before.before.before in
     let told = cleared.before.before in
-    took Open told.enum_told.given.1 told.before.before.before.requires c.«open».ensures cleared.clear.ensures
+    took Open told.in-Open.is told.before.before.requires c.«open».ensures cleared.clear.ensures
 
-returns-3 : tie.Need-returns-3
+returns-3 : tie.Need-returns-in-Words
 returns-3 c =
     let fed = c.before.before in
     let told = fed.before.before in
-    took Words told.enum-told3.given.1 told.before.before.before.requires fed.feed.ensures.0 fed.feed.ensures.1
+    took Words told.in-Words.is told.before.before.requires fed.feed.ensures.0 fed.feed.ensures.1
 
 pub take_spec : {M : Type 1} → statement M
 take_spec =
@@ -26,16 +26,16 @@ take_spec =
     (search rules)
     (search rules)
     (search rules)
-    (λ c κs. let t = c.before.before.before.requires in hands_coordinate _ _ _ t.ready t.accepted c.enum-told2.given.1)
+    (λ c κs. let t = c.before.before.requires in hands_coordinate _ _ _ t.ready t.accepted c.in-Coordinate.is)
     (search rules)
-    (λ c κs. (c.before.enum-told3.given.1, c.before.before.before.before.requires))
+    (λ c κs. (c.before.in-Words.is, c.before.before.before.requires))
     (search rules)
     (search rules)
     (search rules)
     (search rules)
     returns
-    (λ c. took Coordinate c.before.enum-told2.given.1 c.before.before.before.before.requires c.note.ensures refl)
+    (λ c. took Coordinate c.before.in-Coordinate.is c.before.before.before.requires c.note.ensures refl)
     (search rules)
     returns-3
-    (λ c. took Close c.before.enum-told4.given.1 c.before.before.before.before.requires c.mark.ensures refl)
-    (λ c. took NoFrame c.enum-told5.given.1 c.before.before.before.requires refl refl))
+    (λ c. took Close c.before.in-Close.is c.before.before.before.requires c.mark.ensures refl)
+    (λ c. took NoFrame c.in-NoFrame.is c.before.before.requires refl refl))

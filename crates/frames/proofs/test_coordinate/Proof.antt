@@ -10,12 +10,12 @@ returns c =
     let first = second.before in
     gone_through _ tt
     (rw (
-      c.refuse-if3.ensures,
-      second.refuse-if2.ensures,
-      first.refuse-if.ensures,
-      first.before.before.before.before.before.unreduced.ensures,
+      c.refuse_if-3.ensures,
+      second.refuse_if-2.ensures,
+      first.refuse_if.ensures,
+      first.before.before.before.before.before.unreduced-bad_coordinate.ensures,
     ))
 
-pub test-coordinate-spec : {M : Type 1} → statement M
-test-coordinate-spec =
+pub test_coordinate_spec : {M : Type 1} → statement M
+test_coordinate_spec =
     tie.close (tie.spec (λ c. search rules) (search rules) (search rules) (search rules) (search rules) returns)

@@ -8,17 +8,17 @@ use Rattle.frames.proofs.Answers.{tested}
 use Rattle.frames.proofs.test_kind.Statement.{statement}
 use Rattle.frames.proofs.test_kind.Tie as tie
 
-returns-4 : tie.Need-returns-4
+returns-4 : tie.Need-returns-in-Close
 returns-4 c =
-    tested _ _ Close c.before.before.enum-told4.given.1
-    (gone_through _ tt (rw (c.refuse-if.ensures, c.before.lacks-coordinates.ensures)))
+    tested _ _ Close c.before.before.in-Close.is
+    (gone_through _ tt (rw (c.refuse_if.ensures, c.before.lacks_coordinates.ensures)))
 
-returns-5 : tie.Need-returns-5
+returns-5 : tie.Need-returns-in-NoFrame
 unfolding verdict
-returns-5 c = tested _ _ NoFrame c.enum-told5.given.1 refl
+returns-5 c = tested _ _ NoFrame c.in-NoFrame.is refl
 
-pub test-kind-spec : {M : Type 1} → statement M
-test-kind-spec =
+pub test_kind_spec : {M : Type 1} → statement M
+test_kind_spec =
     tie.close
     (tie.spec
     (search rules)
@@ -31,8 +31,8 @@ test-kind-spec =
     (search rules)
     (search rules)
     (search rules)
-    (λ c. tested _ _ Open c.before.enum_told.given.1 c.test-open.ensures)
-    (λ c. tested _ _ Coordinate c.before.enum-told2.given.1 c.test-coordinate.ensures)
-    (λ c. tested _ _ Words c.before.enum-told3.given.1 c.test_words.ensures)
+    (λ c. tested _ _ Open c.before.in-Open.is c.test_open.ensures)
+    (λ c. tested _ _ Coordinate c.before.in-Coordinate.is c.test_coordinate.ensures)
+    (λ c. tested _ _ Words c.before.in-Words.is c.test_words.ensures)
     returns-4
     returns-5)

@@ -7,28 +7,28 @@ use Rattle.frames.proofs.Answers.{shared_tests, refused, passed}
 use Rattle.frames.proofs.test_line.Statement.{statement}
 use Rattle.frames.proofs.test_line.Tie as tie
 
-shared : (c : tie.After-refuse-if2) → let a = c.before.before.before.before.before.args in
-    answer c.refuse-if2.result ≡ verdict (shared_tests a.reader a.frame.kind)
+shared : (c : tie.After-refuse_if-tested) → let a = c.before.before.before.before.before.args in
+    answer c.refuse_if-tested.result ≡ verdict (shared_tests a.reader a.frame.kind)
 shared c =
     let placed = c.before.before in
     let first = placed.before in
     gone_through _ tt
     (rw (
-      c.refuse-if2.ensures,
-      c.before.is-in-place.ensures,
+      c.refuse_if-tested.ensures,
+      c.before.is_in_place.ensures,
       placed.place_of.ensures,
-      first.refuse-if.ensures,
-      first.before.is-done.ensures,
+      first.refuse_if.ensures,
+      first.before.is_done.ensures,
     ))
 
-returns : tie.Need-returns
-returns c = let tested = c.before in refused _ _ (shared tested.before.before) tested.tested.given.1
+returns : tie.Need-returns-in-Refused
+returns c = let tested = c in refused _ _ (shared tested.before) tested.in-Refused.is
 
-returns-2 : tie.Need-returns-2
-returns-2 c = let told = c.before in passed _ _ (shared told.before.before) told.enum_told.given.1 c.test-kind.ensures
+returns-2 : tie.Need-returns-in-Accepted
+returns-2 c = let told = c.before in passed _ _ (shared told.before) told.in-Accepted.is c.test_kind.ensures
 
-pub test-line-spec : {M : Type 1} → statement M
-test-line-spec =
+pub test_line_spec : {M : Type 1} → statement M
+test_line_spec =
     tie.close
     (tie.spec
     (search rules)

@@ -12,17 +12,17 @@ returns c =
     let first = second.before.before in
     gone_through _ tt
     (rw (
-      c.refuse-if5.ensures,
+      c.refuse_if-5.ensures,
       c.before.remaining.ensures,
-      fourth.refuse-if4.ensures,
-      third.refuse-if3.ensures,
-      second.refuse-if2.ensures,
-      first.refuse-if.ensures,
-      first.before.before.unreduced.ensures,
+      fourth.refuse_if-4.ensures,
+      third.refuse_if-3.ensures,
+      second.refuse_if-2.ensures,
+      first.refuse_if.ensures,
+      first.before.before.unreduced-unreduced.ensures,
     ))
 
-pub test-open-spec : {M : Type 1} → statement M
-test-open-spec =
+pub test_open_spec : {M : Type 1} → statement M
+test_open_spec =
     tie.close
     (tie.spec
     (λ c. search rules)

@@ -7,9 +7,9 @@ use Rattle.ledger.proofs.Left.{left_test}
 use Rattle.frames.proofs.test_words.Statement.{statement}
 use Rattle.frames.proofs.test_words.Tie as tie
 
-slice-aggregate-unreduced : tie.Need-slice-aggregate-unreduced
+slice-aggregate-unreduced : tie.Need-slice_bounds-unreduced-end
 slice-aggregate-unreduced c =
-    let counted = c.before.before.before.before.before.before.count_of.ensures in
+    let counted = c.before.before.before.before.before.before.count_of-count.ensures in
     counted.count ∙ ap length (sym counted.words)
 
 returns : tie.Need-returns
@@ -20,18 +20,18 @@ returns c =
     let counted = rows.before.before in
     gone_through _ tt
     (rw (
-      c.refuse-if3.ensures,
-      c.before.refuse-if2.ensures,
-      first.refuse-if.ensures,
+      c.refuse_if-3.ensures,
+      c.before.refuse_if-2.ensures,
+      first.refuse_if.ensures,
       tested.unreduced.ensures,
-      first.before.lacks-coordinates.ensures,
-      counted.count_of.ensures.words,
+      first.before.lacks_coordinates.ensures,
+      counted.count_of-count.ensures.words,
       left_test _ _ _ _ rows.rows.ensures counted.before.requires.within,
-      counted.count_of.ensures.count,
+      counted.count_of-count.ensures.count,
     ))
 
-pub test-words-spec : {M : Type 1} → statement M
-test-words-spec =
+pub test_words_spec : {M : Type 1} → statement M
+test_words_spec =
     tie.close
     (tie.spec
     (search rules)

@@ -4,7 +4,7 @@ use borrow.Author.Rules.{rules}
 use Rattle.frames.proofs.with_coordinate.Statement.{statement}
 use Rattle.frames.proofs.with_coordinate.Tie as tie
 
-count : tie.Need-slice-aggregate-put
+count : tie.Need-slice_bounds-put-end
 count c = search rules
 
 put-requires : tie.Need-put-requires
@@ -13,5 +13,5 @@ put-requires c κs = omega (arith, count c)
 returns : tie.Need-returns
 returns c = rw c.before.before.put.ensures
 
-pub with-coordinate-spec : {M : Type 1} → statement M
-with-coordinate-spec = tie.close (tie.spec count put-requires returns)
+pub with_coordinate_spec : {M : Type 1} → statement M
+with_coordinate_spec = tie.close (tie.spec count put-requires returns)

@@ -1,4 +1,5 @@
 -- `poly::succeed` meets its contract: every value of the body, in one lemma. Assumes nothing.
+use native.Mathlib.Omega.{arith}
 use borrow.Author.Rules.{rules}
 use Rattle.table.proofs.Tests.{holds_at}
 use Rattle.poly.proofs.Succeeding.{kept, succeeded}
@@ -16,6 +17,13 @@ add-requires c κs =
       (kept _ _ begin.requires _ shift.shift.ensures _ zero.zero.ensures put.put.ensures get2.get-kept.ensures).below,
       (holds_at _ begin.requires.below _ get.get-last.ensures).below,
     )
+
+put-requires : tie.Need-put-requires-2
+put-requires c κs =
+    let put = c.before.before.before.before.before in
+    let shift = put.before.before.before.before.before in
+    let begin = shift.before.before.before.before in
+    omega (arith, put.put.auto.ws, shift.shift.auto.out, begin.requires.count, begin.requires.some)
 
 returns : tie.Need-returns
 returns c =
@@ -43,6 +51,6 @@ succeed_spec =
     (search rules)
     (search rules)
     add-requires
-    (search rules)
+    put-requires
     (search rules)
     returns)

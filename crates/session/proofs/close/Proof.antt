@@ -6,17 +6,17 @@ use Rattle.session.proofs.Outcomes.{settles}
 use Rattle.session.proofs.close.Statement.{statement}
 use Rattle.session.proofs.close.Tie as tie
 
-returns : tie.Need-returns
+returns : tie.Need-returns-in-Refused
 unfolding close_leaves
 returns c =
-    let tested = c.before in
-    settles (state _ _) (state _ _) tested.tested.given.1 tested.before.before.test-close.ensures refl refl
+    let tested = c in
+    settles (state _ _) (state _ _) tested.in-Refused.is tested.before.test_close-tested.ensures refl refl
 
-returns-2 : tie.Need-returns-2
+returns-2 : tie.Need-returns-in-Accepted
 unfolding close_leaves
 returns-2 c =
     let told = c.before in
-    settles (state _ _) (state _ _) told.enum_told.given.1 told.before.before.test-close.ensures
+    settles (state _ _) (state _ _) told.in-Accepted.is told.before.test_close-tested.ensures
     refl refl
 
 pub close_spec : {M : Type 1} → statement M

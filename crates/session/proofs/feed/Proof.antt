@@ -10,32 +10,32 @@ use Rattle.session.proofs.Outcomes.{settles}
 use Rattle.session.proofs.feed.Statement.{statement}
 use Rattle.session.proofs.feed.Tie as tie
 
-accepted : (c : tie.After-enum-told) → let a = c.before.before.before.before.before.before.args in
-    Takes a.s.plan a.s.taken a.piece.now a.out.now
-accepted c = fed (state _ _) _ (answer_as c.enum_told.given.1 c.before.before.test-feed.ensures)
+accepted : (c : tie.In-Accepted) → let a = c.before.before.before.before.before.before.args in
+    Takes a.s.plan a.s.taken a.piece.now a.out-1.now
+accepted c = fed (state _ _) _ (answer_as c.in-Accepted.is c.before.test_feed-tested.ensures)
 
-add-taken : tie.Need-overflow-add-fed
-add-taken c = omega (arith, few_taken (accepted c.before.before.before.before.before))
+add-taken : tie.Need-overflow_add-fed
+add-taken c = omega (arith, few_taken (accepted c.before.before.before.before.before.before))
 
-returns : tie.Need-returns
+returns : tie.Need-returns-in-Refused
 unfolding feed_leaves
-returns c = settles (state _ _) (state _ _) c.before.tested.given.1 c.before.before.before.test-feed.ensures refl refl
+returns c = settles (state _ _) (state _ _) c.in-Refused.is c.before.test_feed-tested.ensures refl refl
 
-returns-2 : tie.Need-returns-2
+returns-2 : tie.Need-returns-in-Accepted
 unfolding feed_leaves
 returns-2 c =
     let added = c.before.before.before in
-    let told = added.before.before in
-    settles (state _ _) (state _ _) told.enum_told.given.1 told.before.before.test-feed.ensures refl added.add.ensures
+    let told = added.before.before.before in
+    settles (state _ _) (state _ _) told.in-Accepted.is told.before.test_feed-tested.ensures refl added.add.ensures
 
-pub feed-spec : {M : Type 1} → statement M
-feed-spec =
+pub feed_spec : {M : Type 1} → statement M
+feed_spec =
     tie.close
     (tie.spec
     (search rules)
     (λ c. search rules)
     (λ c. search rules)
-    (λ c κs. accepted c.before)
+    (λ c κs. accepted c.before.before)
     add-taken
     (search rules)
     returns

@@ -8,27 +8,27 @@ use Rattle.session.proofs.Scanning.{found, passed, ended}
 use Rattle.session.proofs.has_nonzero.Statement.{statement}
 use Rattle.session.proofs.has_nonzero.Tie as tie
 
-abbrev invariant-loop : tie.invariant-loop
+abbrev invariant-loop : tie.invariant-loop-i
 invariant-loop ws from i₀ i = nonzero (drop from ws) ≡ nonzero (drop i ws)
 
-abbrev decreases-loop : tie.decreases-loop
+abbrev decreases-loop : tie.decreases-loop-i
 decreases-loop ws from i₀ i = length ws - i
 
-returns : tie.Need-returns invariant-loop decreases-loop
+returns : tie.Need-returns-then-ws-i-ne0 invariant-loop decreases-loop
 returns c =
     let test = c.before.before in
-    sym (test.before.loop.invariant ∙ found _ _ test.loop-test.true c.if1.true)
+    sym (test.before.loop-i.invariant ∙ found _ _ test.loop-i-test.true c.if-ws-i-ne0.true)
 
-loop-again : tie.Need-loop-preserved invariant-loop decreases-loop
+loop-again : tie.Need-loop-i-preserved invariant-loop decreases-loop
 loop-again c =
     let test = c.before.before in
-    test.before.loop.invariant ∙ passed _ _ test.loop-test.true c.if1.false
+    test.before.loop-i.invariant ∙ passed _ _ test.loop-i-test.true c.if-ws-i-ne0.false
 
-returns-2 : tie.Need-returns-2 invariant-loop decreases-loop
-returns-2 c = sym (c.before.loop.invariant ∙ ended _ _ c.loop-test.false)
+returns-2 : tie.Need-returns invariant-loop decreases-loop
+returns-2 c = sym (c.before.loop-i.invariant ∙ ended _ _ c.loop-i-test.false)
 
-pub has-nonzero-spec : {M : Type 1} → statement M
-has-nonzero-spec =
+pub has_nonzero_spec : {M : Type 1} → statement M
+has_nonzero_spec =
     tie.close
     (tie.spec
     invariant-loop

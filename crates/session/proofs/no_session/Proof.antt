@@ -8,5 +8,5 @@ returns : tie.Need-returns
 unfolding no_session
 returns c = rw c.new.ensures
 
-pub no-session-spec : {M : Type 1} → statement M
-no-session-spec = tie.close (tie.spec (search rules) (λ c. search rules) (search rules) returns)
+pub no_session_spec : {M : Type 1} → statement M
+no_session_spec = tie.close (tie.spec (search rules) (λ c. search rules) (search rules) returns)

@@ -10,29 +10,29 @@ use Rattle.session.proofs.Outcomes.{settles}
 use Rattle.session.proofs.open.Statement.{statement}
 use Rattle.session.proofs.open.Tie as tie
 
-accepted : (c : tie.After-enum-told) → let a = c.before.before.before.before.before.before.args in
-    Opened (args a.n a.side a.weight a.scale a.point.now) a.out.now
+accepted : (c : tie.In-Accepted) → let a = c.before.before.before.before.before.before.args in
+    Opened (args a.n a.side a.weight a.scale a.point.now) a.out-1.now
 unfolding open_answer
-accepted c = opened _ _ (answer_as c.enum_told.given.1 c.before.before.test-open.ensures)
+accepted c = opened _ _ (answer_as c.in-Accepted.is c.before.test_open-tested.ensures)
 
 new-requires : tie.Need-new-requires
 new-requires c κs =
     let d = accepted c.before.before.before.before in
     omega (arith, d.count, d.sound.small, d.sound.fits)
 
-returns : tie.Need-returns
+returns : tie.Need-returns-in-Refused
 unfolding open_answer open_leaves
 returns c =
-    let tested = c.before.before in
-    settles (state _ _) (state _ _) tested.tested.given.1 tested.before.before.test-open.ensures
-    c.no-session.ensures refl
+    let tested = c.before in
+    settles (state _ _) (state _ _) tested.in-Refused.is tested.before.test_open-tested.ensures
+    c.no_session.ensures refl
 
-returns-2 : tie.Need-returns-2
+returns-2 : tie.Need-returns-in-Accepted
 unfolding open_answer open_leaves
 returns-2 c =
     let cleared = c.before.before.before in
     let told = cleared.before.before in
-    settles (state _ _) (state _ _) told.enum_told.given.1 told.before.before.test-open.ensures
+    settles (state _ _) (state _ _) told.in-Accepted.is told.before.test_open-tested.ensures
     (ap (λ plan. session_of plan 0 false) c.new.ensures) cleared.clear.ensures
 
 pub open_spec : {M : Type 1} → statement M

@@ -14,25 +14,25 @@ use Rattle.ledger.proofs.Accepted.{readable}
 use Rattle.session.proofs.read.Statement.{statement}
 use Rattle.session.proofs.read.Tie as tie
 
-there : (c : tie.After-enum-told) → let a = c.before.before.before.before.args in
+there : (c : tie.In-Accepted) → let a = c.before.before.before.before.args in
     (4 * a.place + 3 < length a.out.now) × (unreduced p a.out.now ≡ false)
-there c = readable (state _ _) _ (answer_as c.enum_told.given.1 c.before.before.test_read.ensures)
+there c = readable (state _ _) _ (answer_as c.in-Accepted.is c.before.test_read-tested.ensures)
 
 read-requires : tie.Need-read-requires
 read-requires c κs =
     let h = there c in
     (omega (arith, h.0), h.1)
 
-returns : tie.Need-returns
+returns : tie.Need-returns-in-Refused
 unfolding read_answer
-returns c = refused_as _ c.before.tested.given.1 c.before.before.before.test_read.ensures
+returns c = refused_as _ c.in-Refused.is c.before.test_read-tested.ensures
 
-returns-2 : tie.Need-returns-2
+returns-2 : tie.Need-returns-in-Accepted
 unfolding read_answer
 returns-2 c =
     let element = c.before in
     let told = element.before in
-    evaluated_as _ _ told.enum_told.given.1 told.before.before.test_read.ensures element.read.ensures
+    evaluated_as _ _ told.in-Accepted.is told.before.test_read-tested.ensures element.read.ensures
     c.value.ensures
 
 pub read_spec : {M : Type 1} → statement M

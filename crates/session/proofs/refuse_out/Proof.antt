@@ -8,17 +8,17 @@ returns c =
     let fitting = c.before.before in
     let whole = fitting.before.before.before in
     rw (
-      c.refuse-if3.ensures,
+      c.refuse_if-3.ensures,
       c.before.unreduced.ensures,
-      fitting.refuse-if2.ensures,
-      fitting.before.rows-differ.ensures,
+      fitting.refuse_if-2.ensures,
+      fitting.before.rows_differ.ensures,
       fitting.before.before.remaining.ensures,
-      whole.refuse-if.ensures,
+      whole.refuse_if.ensures,
       whole.before.splits.ensures,
     )
 
-pub refuse-out-spec : {M : Type 1} → statement M
-refuse-out-spec =
+pub refuse_out_spec : {M : Type 1} → statement M
+refuse_out_spec =
     tie.close
     (tie.spec
     (search rules)

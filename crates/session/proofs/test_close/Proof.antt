@@ -10,11 +10,11 @@ returns c =
     let ready = c.before.before in
     close_held (state _ _)
     (rw (
-      c.refuse-if.ensures,
-      ready.test-ready.ensures,
-      ready.before.rows.ensures,
+      c.refuse_if.ensures,
+      ready.test_ready.ensures,
+      ready.before.rows-words.ensures,
       ready.before.before.min.ensures,
     ))
 
-pub test-close-spec : {M : Type 1} → statement M
-test-close-spec = tie.close (tie.spec (search rules) (search rules) (search rules) (search rules) returns)
+pub test_close_spec : {M : Type 1} → statement M
+test_close_spec = tie.close (tie.spec (search rules) (search rules) (search rules) (search rules) returns)

@@ -11,17 +11,17 @@ returns c =
     let ready = piece.before.before in
     feed_held (state _ _) _
     (rw (
-      c.refuse-if2.ensures,
+      c.refuse_if-2.ensures,
       c.before.remaining.ensures,
-      piece.refuse-if.ensures,
+      piece.refuse_if.ensures,
       piece.before.unreduced.ensures,
-      ready.test-ready.ensures,
-      ready.before.rows.ensures,
+      ready.test_ready.ensures,
+      ready.before.rows-words.ensures,
       ready.before.before.min.ensures,
     ))
 
-pub test-feed-spec : {M : Type 1} → statement M
-test-feed-spec =
+pub test_feed_spec : {M : Type 1} → statement M
+test_feed_spec =
     tie.close
     (tie.spec
     (search rules)

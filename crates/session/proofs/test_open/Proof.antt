@@ -15,25 +15,25 @@ returns c =
     let point = out.before.before in
     gone_through _ tt
     (rw (
-      c.refuse-if8.ensures,
-      below.refuse-if7.ensures,
-      below.before.unreduced2.ensures,
-      places.refuse-if6.ensures,
-      places.before.rows-differ.ensures,
+      c.refuse_if-8.ensures,
+      below.refuse_if-7.ensures,
+      below.before.unreduced.ensures,
+      places.refuse_if-6.ensures,
+      places.before.rows_differ.ensures,
       places.before.before.remaining.ensures,
-      fitting.refuse-if5.ensures,
-      few.refuse-if4.ensures,
+      fitting.refuse_if-5.ensures,
+      few.refuse_if-4.ensures,
       few.before.too_many.ensures,
-      small.refuse-if3.ensures,
-      out.refuse-if2.ensures,
-      out.before.splits2.ensures,
-      point.refuse-if.ensures,
+      small.refuse_if-3.ensures,
+      out.refuse_if-2.ensures,
+      out.before.splits-2.ensures,
+      point.refuse_if.ensures,
       point.before.splits.ensures,
-      point.before.before.unreduced.ensures,
+      point.before.before.unreduced-bad_scale.ensures,
     ))
 
-pub test-open-spec : {M : Type 1} → statement M
-test-open-spec =
+pub test_open_spec : {M : Type 1} → statement M
+test_open_spec =
     tie.close
     (tie.spec
     (λ c. search rules)

@@ -8,7 +8,7 @@ use Rattle.session.proofs.test_read.Tie as tie
 returns : tie.Need-returns
 returns c =
     let out = c.before in
-    read_held (state _ _) _ (rw (c.refuse-if.ensures, out.refuse-out.ensures, out.before.test-record.ensures))
+    read_held (state _ _) _ (rw (c.refuse_if.ensures, out.refuse_out.ensures, out.before.test_record.ensures))
 
-pub test-read-spec : {M : Type 1} → statement M
-test-read-spec = tie.close (tie.spec (search rules) (search rules) (search rules) returns)
+pub test_read_spec : {M : Type 1} → statement M
+test_read_spec = tie.close (tie.spec (search rules) (search rules) (search rules) returns)

@@ -9,7 +9,7 @@ returns : tie.Need-returns
 returns c =
     let closed = c.before in
     let a = closed.before.before.before.args in
-    ready (state a.s a.out.now) (rw (c.refuse-out.ensures, closed.refuse-if.ensures, closed.before.test-record.ensures))
+    ready (state a.s a.out.now) (rw (c.refuse_out.ensures, closed.refuse_if-tested.ensures, closed.before.test_record.ensures))
 
-pub test-ready-spec : {M : Type 1} → statement M
-test-ready-spec = tie.close (tie.spec (search rules) (search rules) (search rules) returns)
+pub test_ready_spec : {M : Type 1} → statement M
+test_ready_spec = tie.close (tie.spec (search rules) (search rules) (search rules) returns)

@@ -16,24 +16,24 @@ returns c =
     let words = point.before.before.before.before.before.before in
     record_held words.before.before.args.s
     (rw (
-      c.refuse-if7.ensures,
-      c.before.refuse-if6.ensures,
-      c.before.before.refuse-if5.ensures,
-      scale.refuse-if4.ensures,
-      taken.refuse-if3.ensures,
-      k.refuse-if2.ensures,
-      n.refuse-if.ensures,
-      short.is-short.ensures,
-      rest.has-nonzero.ensures,
-      rest.before.before.min2.ensures,
-      point.unreduced2.ensures,
-      point.before.before.unreduced.ensures,
-      words.rows.ensures,
+      c.refuse_if-7.ensures,
+      c.before.refuse_if-6.ensures,
+      c.before.before.refuse_if-5.ensures,
+      scale.refuse_if-4.ensures,
+      taken.refuse_if-3.ensures,
+      k.refuse_if-2.ensures,
+      n.refuse_if.ensures,
+      short.is_short-short.ensures,
+      rest.has_nonzero-bad_rest.ensures,
+      rest.before.before.min-used.ensures,
+      point.unreduced-bad_point.ensures,
+      point.before.before.unreduced-bad_scale.ensures,
+      words.rows-words.ensures,
       words.before.min.ensures,
     ))
 
-pub test-record-spec : {M : Type 1} → statement M
-test-record-spec =
+pub test_record_spec : {M : Type 1} → statement M
+test_record_spec =
     tie.close
     (tie.spec
     (search rules)

@@ -12,41 +12,41 @@ use Rattle.split_eq.proofs.WorkWeights.{filled, gained}
 use Rattle.split_eq.proofs.scalar.accumulate_into.Statement.{statement}
 use Rattle.split_eq.proofs.scalar.accumulate_into.Tie as tie
 
-module _ (told : tie.After-enum-told) where
+module _ (told : tie.In-Accepted) where
   abbrev begin : tie.Start
-  begin = told.before.before.before.before.before.before.before.before
+  begin = told.before.before.before.before.before
 
   accepted : Fillable begin.args.point.now begin.args.scale begin.args.work.now
       × Reduced begin.args.given
       × Open (entries begin.args.point.now) begin.args.out.now
   accepted =
-      accumulate_tested _ _ _ _ _ (omega (arith, begin)) (answer_as told.enum_told.given.1 told.before.before.of-accumulate.ensures)
+      accumulate_tested _ _ _ _ _ (omega (arith, begin)) (answer_as told.in-Accepted.is told.before.of_accumulate-tested.ensures)
 
 fill-requires : tie.Need-fill-requires
 fill-requires c κs = (accepted c.before).0
 
 accumulate-requires : tie.Need-accumulate-requires
 accumulate-requires c κs =
-    let fill = c.before.before.before.before in
+    let fill = c.before.before.before in
     let a = accepted fill.before.before in
     ((filled _ _ _ _ fill.fill.ensures a.0.0.0, a.1), a.2)
 
-returns : tie.Need-returns
+returns : tie.Need-returns-in-Refused
 unfolding accumulate_work accumulate_out
 returns c =
-    rw (← answer_as c.before.tested.given.1 c.before.before.before.of-accumulate.ensures) (refl, (simp kept, simp kept))
+    rw (← answer_as c.in-Refused.is c.before.of_accumulate-tested.ensures) (refl, (simp kept, simp kept))
 
-returns-2 : tie.Need-returns-2
+returns-2 : tie.Need-returns-in-Accepted
 unfolding accumulate_work accumulate_out
 returns-2 c =
     let sum = c.before.before in
-    let fill = sum.before.before.before.before.before in
+    let fill = sum.before.before.before.before in
     let told = fill.before.before in
-    rw (← answer_as told.enum_told.given.1 told.before.before.of-accumulate.ensures)
+    rw (← answer_as told.in-Accepted.is told.before.of_accumulate-tested.ensures)
     (refl, (fill.fill.ensures, sum.accumulate.ensures ∙ gained _ _ _ _ fill.fill.ensures _ _))
 
-pub accumulate-into-spec : {M : Type 1} → statement M
-accumulate-into-spec =
+pub accumulate_into_spec : {M : Type 1} → statement M
+accumulate_into_spec =
     tie.close
     (tie.spec (λ c κs. search rules) (λ c. search rules) (λ c. search rules) fill-requires accumulate-requires (λ c. search rules)
     (λ c. search rules) returns (λ c. search rules) (λ c. search rules) returns-2)

@@ -12,36 +12,36 @@ use Rattle.split_eq.proofs.Tested.{Fillable, ext_tested}
 use Rattle.split_eq.proofs.value.eval_ext.Statement.{statement}
 use Rattle.split_eq.proofs.value.eval_ext.Tie as tie
 
-module _ (told : tie.After-enum-told) where
+module _ (told : tie.In-Accepted) where
   abbrev begin : tie.Start
-  begin = told.before.before.before.before.before.before.before
+  begin = told.before.before.before.before.before
 
   accepted : Fillable begin.args.point.now begin.args.scale begin.args.work.now
       × WholeExt (entries begin.args.point.now) begin.args.table.now
   accepted =
-      ext_tested _ _ _ _ (omega (arith, begin)) (answer_as told.enum_told.given.1 told.before.before.of-ext.ensures)
+      ext_tested _ _ _ _ (omega (arith, begin)) (answer_as told.in-Accepted.is told.before.of_ext-tested.ensures)
 
 fill-requires : tie.Need-fill-requires
 fill-requires c κs = (accepted c.before).0
 
-scaled-value-ext-requires : tie.Need-scaled-value-ext-requires
+scaled-value-ext-requires : tie.Need-scaled_value_ext-requires
 scaled-value-ext-requires c κs = let a = accepted c.before.before.before.before in (a.0.0, a.1)
 
-returns : tie.Need-returns
+returns : tie.Need-returns-in-Refused
 unfolding scaled_ext_answer ext_work
-returns c = rw (← answer_as c.before.tested.given.1 c.before.before.before.of-ext.ensures) (simp kept, simp kept)
+returns c = rw (← answer_as c.in-Refused.is c.before.of_ext-tested.ensures) (simp kept, simp kept)
 
-returns-2 : tie.Need-returns-2
+returns-2 : tie.Need-returns-in-Accepted
 unfolding scaled_ext_answer ext_work
 returns-2 c =
     let sum = c.before in
     let fill = sum.before.before.before in
     let told = fill.before.before in
-    rw (← answer_as told.enum_told.given.1 told.before.before.of-ext.ensures)
-    (ap (given 0) (value_words_lem _ sum.scaled-value-ext.ensures c.value.ensures), fill.fill.ensures)
+    rw (← answer_as told.in-Accepted.is told.before.of_ext-tested.ensures)
+    (ap (given 0) (value_words_lem _ sum.scaled_value_ext.ensures c.value.ensures), fill.fill.ensures)
 
-pub eval-ext-spec : {M : Type 1} → statement M
-eval-ext-spec =
+pub eval_ext_spec : {M : Type 1} → statement M
+eval_ext_spec =
     tie.close
     (tie.spec (λ c κs. search rules) (λ c. search rules) (λ c. search rules) fill-requires scaled-value-ext-requires (λ c κs. search rules)
     (λ c. search rules) returns (λ c. search rules) returns-2)

@@ -7,7 +7,7 @@ use Rattle.split_eq.proofs.WorkWeights.{filled}
 use Rattle.split_eq.proofs.value.scaled_next_value.Statement.{statement}
 use Rattle.split_eq.proofs.value.scaled_next_value.Tie as tie
 
-abbrev begin : tie.Else1 → tie.Start
+abbrev begin : tie.Else-n-lt2 → tie.Start
 begin c = c.before.before.before.before
 
 weight-requires : tie.Need-weight-requires
@@ -20,20 +20,20 @@ weigh-requires c κs =
     let pre = (begin c.before.before.before.before).requires in
     (pre.0.0, later pre.0.1)
 
-returns : tie.Need-returns
-returns c = corner _ c.before.before.before.before.before.before.args.n _ _ (omega arith) c.from-base.ensures
+returns : tie.Need-returns-then-n-lt2
+returns c = corner _ c.before.before.before.before.before.before.args.n _ _ (omega arith) c.from_base.ensures
 
-returns-2 : tie.Need-returns-2
+returns-2 : tie.Need-returns
 returns-2 c =
     let sum = c.before in
     let own = sum.before.before in
     let row = own.before.before in
     let pre = (begin row.before).requires in
-    next_sum pre.0.1 _ _ pre.1 (omega (arith, row.before.if1.false)) row.weight.ensures own.mul-base.ensures
+    next_sum pre.0.1 _ _ pre.1 (omega (arith, row.before.if-n-lt2.false)) row.weight.ensures own.mul_base-own.ensures
     sum.weigh.ensures c.add.ensures
 
-pub scaled-next-value-spec : {M : Type 1} → statement M
-scaled-next-value-spec =
+pub scaled_next_value_spec : {M : Type 1} → statement M
+scaled_next_value_spec =
     tie.close
     (tie.spec
     (search rules)

@@ -6,14 +6,14 @@ use Rattle.split_eq.proofs.Scaled.{constant, scaled}
 use Rattle.split_eq.proofs.value.scaled_value.Statement.{statement}
 use Rattle.split_eq.proofs.value.scaled_value.Tie as tie
 
-returns : tie.Need-returns
-returns c = constant _ _ _ _ c.before.before.if1.true c.from-base.ensures
+returns : tie.Need-returns-then-n-eq0
+returns c = constant _ _ _ _ c.before.before.if-n-eq0.true c.from_base.ensures
 
-returns-2 : tie.Need-returns-2
-returns-2 c = scaled _ _ _ _ c.before.if1.false c.weigh.ensures
+returns-2 : tie.Need-returns
+returns-2 c = scaled _ _ _ _ c.before.if-n-eq0.false c.weigh.ensures
 
-pub scaled-value-spec : {M : Type 1} → statement M
-scaled-value-spec =
+pub scaled_value_spec : {M : Type 1} → statement M
+scaled_value_spec =
     tie.close
     (tie.spec
     (λ c. omega (arith, some c.before.before.before.before.requires.1))

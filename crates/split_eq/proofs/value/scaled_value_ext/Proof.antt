@@ -11,11 +11,11 @@ read-requires c κs =
     let from = c.before.before.before in
     (omega (arith, from.requires.1.count, pow_pos from.args.n), from.requires.1.below)
 
-returns : tie.Need-returns
-returns c = constant _ _ _ _ c.before.if1.true c.read.ensures
+returns : tie.Need-returns-then-n-eq0
+returns c = constant _ _ _ _ c.before.if-n-eq0.true c.read.ensures
 
-returns-2 : tie.Need-returns-2
-returns-2 c = scaled _ _ _ _ c.before.if1.false c.weigh-ext.ensures
+returns-2 : tie.Need-returns
+returns-2 c = scaled _ _ _ _ c.before.if-n-eq0.false c.weigh_ext.ensures
 
-pub scaled-value-ext-spec : {M : Type 1} → statement M
-scaled-value-ext-spec = tie.close (tie.spec read-requires returns (λ c κs. search rules) returns-2)
+pub scaled_value_ext_spec : {M : Type 1} → statement M
+scaled_value_ext_spec = tie.close (tie.spec read-requires returns (λ c κs. search rules) returns-2)
