@@ -6,23 +6,23 @@ use Rattle.program.proofs.Joining.{stopped_fed, stopped_said}
 use Rattle.program.proofs.feed.Statement.{statement}
 use Rattle.program.proofs.feed.Tie as tie
 
-returns : tie.Need-returns
+returns : tie.Need-returns-then-program
 returns c =
     let start = c.before.before.before.before.before in
-    (sym (stopped_fed _ _ c.if1.true), (sym (stopped_said _ _ c.if1.true), (start.requires, omega arith)))
+    (sym (stopped_fed _ _ c.if-program.true), (sym (stopped_said _ _ c.if-program.true), (start.requires, omega arith)))
 
 lines-requires : tie.Need-lines-requires
 lines-requires c κs =
     let other = c.before.before.before in
-    (other.before.before.before.before.before.requires, other.if1.false)
+    (other.before.before.before.before.before.requires, other.if-program.false)
 
-returns-2 : tie.Need-returns-2
+returns-2 : tie.Need-returns
 returns-2 c =
     let e = c.before.before.before.before.before.before.lines.ensures in
     (e.0, (e.1.0, (e.1.1.going, omega (arith, e.1.1.room))))
 
-pub feed-spec : {M : Type 1} → statement M
-feed-spec =
+pub feed_spec : {M : Type 1} → statement M
+feed_spec =
     tie.close
     (tie.spec
     returns

@@ -10,8 +10,8 @@ use Rattle.session.proofs.Outcomes.{settles}
 use Rattle.session.proofs.feed.Statement.{statement}
 use Rattle.session.proofs.feed.Tie as tie
 
-accepted : (c : tie.In-Accepted) → let a = c.before.before.before.before.before.before.args in
-    Takes a.s.plan a.s.taken a.piece.now a.out-1.now
+accepted : (c : tie.In-Accepted) → let a = c.before.before.before.before.args in
+    Takes a.s.plan a.s.taken a.piece.now a.out.now
 accepted c = fed (state _ _) _ (answer_as c.in-Accepted.is c.before.test_feed-tested.ensures)
 
 add-taken : tie.Need-overflow_add-fed

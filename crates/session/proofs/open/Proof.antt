@@ -10,8 +10,8 @@ use Rattle.session.proofs.Outcomes.{settles}
 use Rattle.session.proofs.open.Statement.{statement}
 use Rattle.session.proofs.open.Tie as tie
 
-accepted : (c : tie.In-Accepted) → let a = c.before.before.before.before.before.before.args in
-    Opened (args a.n a.side a.weight a.scale a.point.now) a.out-1.now
+accepted : (c : tie.In-Accepted) → let a = c.before.before.before.before.args in
+    Opened (args a.n a.side a.weight a.scale a.point.now) a.out.now
 unfolding open_answer
 accepted c = opened _ _ (answer_as c.in-Accepted.is c.before.test_open-tested.ensures)
 

@@ -14,7 +14,7 @@ use Rattle.ledger.proofs.Accepted.{readable}
 use Rattle.session.proofs.read.Statement.{statement}
 use Rattle.session.proofs.read.Tie as tie
 
-there : (c : tie.In-Accepted) → let a = c.before.before.before.before.args in
+there : (c : tie.In-Accepted) → let a = c.before.before.before.args in
     (4 * a.place + 3 < length a.out.now) × (unreduced p a.out.now ≡ false)
 there c = readable (state _ _) _ (answer_as c.in-Accepted.is c.before.test_read-tested.ensures)
 

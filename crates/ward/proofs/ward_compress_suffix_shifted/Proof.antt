@@ -9,6 +9,6 @@ returns c =
     let called = c.before.before.before.before.before in
     (c.answer.ensures ∙ called.compress.ensures.0, called.compress.ensures.1)
 
-pub ward-compress-suffix-shifted-spec : {M : Type 1} → statement M
-ward-compress-suffix-shifted-spec =
+pub ward_compress_suffix_shifted_spec : {M : Type 1} → statement M
+ward_compress_suffix_shifted_spec =
     tie.close (tie.spec (search rules) (search rules) (search rules) (search rules) returns)

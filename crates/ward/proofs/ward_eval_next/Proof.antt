@@ -7,7 +7,7 @@ use Rattle.ward.proofs.ward_eval_next.Tie as tie
 returns : tie.Need-returns
 returns c =
     let called = c.before.before.before in
-    (c.answer.ensures ∙ called.eval-next.ensures.0, called.eval-next.ensures.1)
+    (c.answer.ensures ∙ called.eval_next.ensures.0, called.eval_next.ensures.1)
 
-pub ward-eval-next-spec : {M : Type 1} → statement M
-ward-eval-next-spec = tie.close (tie.spec (search rules) (search rules) (search rules) returns)
+pub ward_eval_next_spec : {M : Type 1} → statement M
+ward_eval_next_spec = tie.close (tie.spec (search rules) (search rules) (search rules) returns)

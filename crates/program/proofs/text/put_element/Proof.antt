@@ -7,7 +7,7 @@ use Rattle.program.proofs.Texts.{part_length, element_line}
 use Rattle.program.proofs.text.put_element.Statement.{statement}
 use Rattle.program.proofs.text.put_element.Tie as tie
 
-slice-aggregate-digits : tie.Need-slice-aggregate-digits
+slice-aggregate-digits : tie.Need-slice_bounds-digits-end-3
 slice-aggregate-digits c = sym (length-take-le 32 c.before.before.before.before.args.line.now (omega arith))
 
 digits-requires : tie.Need-digits-requires
@@ -20,8 +20,8 @@ returns c =
     let start = c.before.before.before.before.before.before.before in
     element_line _ _ start.args.line.now start.requires.0 start.requires.1 c.before.before.digits.ensures
 
-pub put-element-spec : {M : Type 1} → statement M
-put-element-spec =
+pub put_element_spec : {M : Type 1} → statement M
+put_element_spec =
     tie.close
     (tie.spec
     (search rules)

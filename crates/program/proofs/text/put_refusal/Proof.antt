@@ -8,10 +8,10 @@ use Rattle.program.proofs.text.put_refusal.Tie as tie
 returns : tie.Need-returns
 returns c =
     let start = c.before.before.before.before.before in
-    behind_put start.args.at 5 start.args.text.now start.requires c.before.before.fill-refusal.ensures refl
+    behind_put start.args.at 5 start.args.text.now start.requires c.before.before.fill_refusal.ensures refl
 
-pub put-refusal-spec : {M : Type 1} → statement M
-put-refusal-spec =
+pub put_refusal_spec : {M : Type 1} → statement M
+put_refusal_spec =
     tie.close
     (tie.spec
     (search rules)

@@ -12,43 +12,43 @@ use Rattle.ward.proofs.shifted.fill.Statement.{statement}
 use Rattle.ward.proofs.shifted.fill.Tie as tie
 
 -- the words of the array that are lent
-module _ (room : tie.After-tables-room) where
+module _ (room : tie.After-tables_room-tables) where
   abbrev begin : tie.Start
   begin = room.before.before.before
 
   abbrev bytes : List ℕ
   bytes = begin.args.work.now
 
-  fits : length bytes / 4 ≤ length room.tables-room.result
-  fits = omega (arith, begin.pre.room, both_small begin.args.k begin.pre.point_is.few)
+  fits : length bytes / 4 ≤ length room.tables_room-tables.result
+  fits = omega (arith, begin.requires.room, both_small begin.args.k begin.requires.point_is.few)
 
-  lent : length (take (length bytes / 4) room.tables-room.result) ≡ length bytes / 4
-  lent = length-take-le (length bytes / 4) room.tables-room.result fits
+  lent : length (take (length bytes / 4) room.tables_room-tables.result) ≡ length bytes / 4
+  lent = length-take-le (length bytes / 4) room.tables_room-tables.result fits
 
 fill-requires : tie.Need-fill-requires
 fill-requires c κs =
-    let pre = (begin c.before).pre in
+    let pre = (begin c.before).requires in
     ((pre.point_is, pre.scale_is), record { size = lent c.before ∙ omega (arith, pre.room) })
 
 -- and what they are when they are back
 module _ (fill : tie.After-fill) where
-  abbrev room : tie.After-tables-room
+  abbrev room : tie.After-tables_room-tables
   room = fill.before.before
 
   abbrev words : List ℕ
-  words = fill.fill.last.0
+  words = fill.fill.new.work
 
   abbrev back : List ℕ
-  back = words ++ drop (length (bytes room) / 4) room.tables-room.result
+  back = words ++ drop (length (bytes room) / 4) room.tables_room-tables.result
 
-  whole : length back ≡ length room.tables-room.result
-  whole = length_front room.tables-room.result words (length (bytes room) / 4) fill.fill.kept.0
+  whole : length back ≡ length room.tables_room-tables.result
+  whole = length_front room.tables_room-tables.result words (length (bytes room) / 4) fill.fill.auto.work
 
   front : take (length (bytes room) / 4) back ≡ words
-  front = take_at words _ (length (bytes room) / 4) (fill.fill.kept.0 ∙ lent room)
+  front = take_at words _ (length (bytes room) / 4) (fill.fill.auto.work ∙ lent room)
 
   count : length (take (length (bytes room) / 4) back) ≡ length (bytes room) / 4
-  count = ap length front ∙ fill.fill.kept.0 ∙ lent room
+  count = ap length front ∙ fill.fill.auto.work ∙ lent room
 
 returns : tie.Need-returns
 returns c =
@@ -61,4 +61,4 @@ fill_spec =
     tie.close
     (tie.spec (search rules) fits (λ c. sym (lent c.before)) fill-requires
     (λ c. omega (arith, fits (room c.before), whole c.before)) (λ c. sym (count c.before.before))
-    (λ c κs. let fill = c.before.before.before in omega (arith, count fill, (begin (room fill)).pre.room)) (search rules) returns)
+    (λ c κs. let fill = c.before.before.before in omega (arith, count fill, (begin (room fill)).requires.room)) (search rules) returns)

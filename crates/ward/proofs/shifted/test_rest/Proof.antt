@@ -14,7 +14,7 @@ module _ (begin : tie.Start) where
   sizes : (variables (length begin.args.table.now / 4) ≤ most) × (length begin.args.point.now / 4 / 4 ≤ most)
   sizes = few begin.args.table.now begin.args.point.now begin.args.scale begin.args.work.now begin.args.out.now begin.requires
 
-module _ (words : tie.After-words) where
+module _ (words : tie.After-words-1) where
   abbrev begin : tie.Start
   begin = words.before.before.before.before.before.before
 
@@ -24,16 +24,16 @@ rows-requires c κs = omega (arith, (sizes (begin c)).1)
 rows-requires-2 : tie.Need-rows-requires-2
 rows-requires-2 c κs = omega (arith, (sizes (begin c.before)).1)
 
-add-both : tie.Need-overflow-add-both
+add-both : tie.Need-overflow_add-both
 add-both c =
     let words = c.before.before in
     let k = length (begin words).args.point.now / 4 / 4 in
-    omega (arith, both_small k (sizes (begin words)).1, c.rows2.ensures, c.before.rows.ensures)
+    omega (arith, both_small k (sizes (begin words)).1, c.rows-2.ensures, c.before.rows.ensures)
 
-rows-requires-3 : tie.Need-rows-requires-3
+rows-requires-3 : tie.Need-rows-places-requires
 rows-requires-3 c κs =
     let words = c.before.before.before in
-    omega (arith, (sizes (begin words)).0, c.remaining.ensures, words.before.variables.ensures)
+    omega (arith, (sizes (begin words)).0, c.remaining.ensures, words.before.variables-n.ensures)
 
 returns : tie.Need-returns
 returns c =
@@ -48,28 +48,28 @@ returns c =
     let a = (begin words).args in
     by_others a.table.now a.point.now a.scale a.work.now a.out.now (begin words).requires
     (rw (
-      c.refuse-if6.ensures,
+      c.refuse_if-6.ensures,
       c.before.unreduced.ensures,
-      point.refuse-if5.ensures,
-      point.before.is-unreduced2.ensures,
-      table.refuse-if4.ensures,
-      table.before.is-unreduced.ensures,
-      out.refuse-if3.ensures,
-      work.refuse-if2.ensures,
-      above.refuse-if.ensures,
-      places.rows3.ensures,
+      point.refuse_if-5.ensures,
+      point.before.is_unreduced-2.ensures,
+      table.refuse_if-4.ensures,
+      table.before.is_unreduced.ensures,
+      out.refuse_if-3.ensures,
+      work.refuse_if-2.ensures,
+      above.refuse_if.ensures,
+      places.rows-places.ensures,
       places.before.remaining.ensures,
-      rows.rows2.ensures,
+      rows.rows-2.ensures,
       rows.before.rows.ensures,
       words_length a.table.now,
       words_length a.point.now,
       words_length a.work.now,
       words_length a.out.now,
-      ← words.before.variables.ensures,
+      ← words.before.variables-n.ensures,
     ))
 
-pub test-rest-spec : {M : Type 1} → statement M
-test-rest-spec =
+pub test_rest_spec : {M : Type 1} → statement M
+test_rest_spec =
     tie.close
     (tie.spec (search rules) rows-requires (search rules) rows-requires-2 add-both (search rules) rows-requires-3 (search rules)
     (search rules) (search rules) (search rules) (search rules) (search rules) (search rules) (λ c. search rules) (search rules)

@@ -16,21 +16,21 @@ returns c =
     let args = whole.before.before.before.before.before.args in
     gone_through _ tt
     (rw (
-      c.refuse-if7.ensures,
-      small.refuse-if6.ensures,
-      small.before.too-many-variables.ensures,
-      power.refuse-if5.ensures,
-      power.before.not-power.ensures,
-      out.refuse-if4.ensures,
-      work.refuse-if3.ensures,
-      point.refuse-if2.ensures,
-      whole.refuse-if.ensures,
+      c.refuse_if-7.ensures,
+      small.refuse_if-6.ensures,
+      small.before.too_many_variables.ensures,
+      power.refuse_if-5.ensures,
+      power.before.not_power.ensures,
+      out.refuse_if-4.ensures,
+      work.refuse_if-3.ensures,
+      point.refuse_if-2.ensures,
+      whole.refuse_if.ensures,
       words_length args.table.now,
       words_length args.point.now,
     ))
 
-pub test-sizes-spec : {M : Type 1} → statement M
-test-sizes-spec =
+pub test_sizes_spec : {M : Type 1} → statement M
+test_sizes_spec =
     tie.close
     (tie.spec (search rules) (search rules) (search rules) (search rules) (search rules) (search rules) (search rules) (search rules)
     (search rules) returns)
