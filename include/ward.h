@@ -1,5 +1,5 @@
 /* The ward app's calls: equality and successors at a point, and shifted folds
-   of a table at a point. Link with libward.a (`rt staticlib ward`, x86-64).
+   of a table at a point. Link with libward.a (`tools/archive ward`, x86-64).
 
    Words and elements. A word is a number below p = 2013265921 and stands in
    four bytes, lowest first. An element is four words c0, c1, c2, c3, sixteen

@@ -26,19 +26,19 @@ need() {
 need_host() {
     local name
     for name in host host_values; do
-        need "${HOST_LIB_DIR:-$root/target/staticlib}/lib$name.a" "rt staticlib $name"
+        need "${HOST_LIB_DIR:-$root/crates/$name/out}/lib$name.a" "tools/archive $name"
     done
 }
 
 # Fails where there is no archive of the ward's calls.
 need_ward() {
-    need "${WARD_LIB_DIR:-$root/target/staticlib}/libward.a" "rt staticlib ward"
+    need "${WARD_LIB_DIR:-$root/crates/ward/out}/libward.a" "tools/archive ward"
 }
 
 # Fails where there is no program for frames; names it for the comparison.
 need_foldframes() {
-    export FOLDFRAMES=${FOLDFRAMES:-$root/target/bin/foldframes}
-    need "$FOLDFRAMES" "rt check foldframes"
+    export FOLDFRAMES=${FOLDFRAMES:-$root/crates/foldframes/out/foldframes}
+    need "$FOLDFRAMES" "cd crates/foldframes && rt run"
 }
 
 # Builds the program $1 and runs it with the other arguments.

@@ -1,16 +1,18 @@
 // Reads frames from standard input, a line each, and prints the out lines at `04`, or the line of the first refusal.
 //
 // What is printed `program` decides: here the input is read, handed over block by block, and the text of each block written. A read
-// or a write that fails ends the program, with a line on standard error and nothing more on standard output.
+// or a write that fails ends the program, with a line on standard error, nothing more on standard output, and the status 1.
 #![tactic(auto)]
 
-ghost use Rattle.std.specs.Prelude.{◌≡◌, false, length, replicate};
+ghost use Rattle.std.specs.Prelude.{◌≡◌, false, length, replicate, IfOk};
 ghost use Rattle.frame.specs.Frame.{most_line};
 ghost use Rattle.program.specs.Blocks.{most_text, Going};
 ghost use Rattle.foldframes.specs.Progress.{Kept};
 
-use libc::{STDIN_FILENO, STDOUT_FILENO};
 use program::Program;
+use std::io::{Error, ErrorKind, Read, Write};
+use std::process::ExitCode;
+use std::{fmt, thread};
 
 // The program's state, and whether it goes on.
 #[derive(Clone, Copy)]
@@ -19,8 +21,35 @@ struct Progress {
     program: Program,
 }
 
-fn main() {
-    let mut block = io::large_buffer();
+// The call of the system that failed, and why.
+#[derive(Clone, Copy)]
+enum Failure {
+    Reading(Error),
+    Writing(Error),
+}
+
+impl fmt::Display for Failure {
+    fn fmt<W: fmt::Write>(&self, f: &mut fmt::Formatter<W>) -> fmt::Result {
+        match self {
+            Failure::Reading(error) => write!(f, "standard input: {error}"),
+            Failure::Writing(error) => write!(f, "standard output: {error}"),
+        }
+    }
+}
+
+fn main(rt: HostRuntime) -> ExitCode {
+    match fold(&mut rt.stdin(), &mut rt.stdout()) {
+        Ok(()) => ExitCode::SUCCESS,
+        Err(failure) => {
+            let _ = eprintln!(rt; "foldframes: {failure}");
+            ExitCode::FAILURE
+        }
+    }
+}
+
+// The whole input, read by read.
+fn fold(input: &mut impl Read, output: &mut impl Write) -> Result<(), Failure> {
+    let mut block = [0u8; 65536];
     let mut line = line_room();
     let mut out = out_room();
     let mut text = text_room();
@@ -28,101 +57,116 @@ fn main() {
         going: true,
         program: program::start(),
     };
-    let mut turns = u64::MAX;
-    while turns > 0 && at.going {
-        let program = at.program;
-        at = turn(program, &mut block, &mut line, &mut out, &mut text);
-        turns -= 1;
+    for _ in 0..u64::MAX {
+        if !at.going {
+            break;
+        }
+        at = turn(
+            input, output, at.program, &mut block, &mut line, &mut out, &mut text,
+        )?;
     }
+    Ok(())
 }
 
 // Reads once, and hands on what came.
 fn turn(
+    input: &mut impl Read,
+    output: &mut impl Write,
     program: Program,
     block: &mut [u8],
     line: &mut [u8],
     out: &mut [u32],
     text: &mut [u8],
-) -> Progress
+) -> Result<Progress, Failure>
     requires { Going program line.old out.old text.old }
-    ensures { Kept result line.new out.new text.new }
+    ensures { IfOk result (λ at. Kept at line.new out.new text.new) }
 {
-    let got = libc::read(STDIN_FILENO, block);
-    if got < 0 {
-        let going = is_passing(b"foldframes: standard input");
-        return Progress { going, program };
+    match input.read(block) {
+        Ok(0) => end(output, program, line, out, text),
+        Ok(count) => feed(output, program, &block[..count], line, out, text),
+        Err(error) => {
+            if !is_passing(&error) {
+                return Err(Failure::Reading(error));
+            }
+            Ok(Progress {
+                going: true,
+                program,
+            })
+        }
     }
-    if got == 0 {
-        return end(program, line, out, text);
-    }
-    let count = io::count(got, block);
-    feed(program, &block[..count], line, out, text)
 }
 
-// A block of input. A refused line is the last, and so is a text that cannot be written.
+// A block of input. A refused line is the last.
 fn feed(
+    output: &mut impl Write,
     program: Program,
     block: &[u8],
     line: &mut [u8],
     out: &mut [u32],
     text: &mut [u8],
-) -> Progress
+) -> Result<Progress, Failure>
     requires { Going program line.old out.old text.old }
-    ensures { Kept result line.new out.new text.new }
+    ensures { IfOk result (λ at. Kept at line.new out.new text.new) }
 {
     let fed = program::feed(program, block, line, out, text);
     let count = fed.count;
-    let written = write(&text[..count]);
+    write(output, &text[..count])?;
     let next = fed.program;
-    Progress {
-        going: written && !next.stopped,
+    Ok(Progress {
+        going: !next.stopped,
         program: next,
-    }
+    })
 }
 
 // The end of the input.
-fn end(program: Program, line: &[u8], out: &mut [u32], text: &mut [u8]) -> Progress
+fn end(
+    output: &mut impl Write,
+    program: Program,
+    line: &[u8],
+    out: &mut [u32],
+    text: &mut [u8],
+) -> Result<Progress, Failure>
     requires { Going program line.now out.old text.old }
-    ensures { result.going ≡ false }
+    ensures { IfOk result (λ at. at.going ≡ false) }
 {
     let count = program::end(program, line, out, text);
-    write(&text[..count]);
-    Progress {
+    write(output, &text[..count])?;
+    Ok(Progress {
         going: false,
         program,
-    }
+    })
 }
 
-// Writes all of text to standard output, and answers whether all was written. A write that takes nothing is one that failed.
-fn write(text: &[u8]) -> bool {
+// Writes all of text to standard output. A write that takes nothing is one that failed.
+fn write(output: &mut impl Write, text: &[u8]) -> Result<(), Failure> {
     let mut done = 0;
-    let mut tries = u64::MAX;
-    while tries > 0 && done < text.len() {
-        let put = libc::write(STDOUT_FILENO, &text[done..]);
-        if put == 0 {
-            return false;
+    for _ in 0..u64::MAX {
+        if done >= text.len() {
+            return Ok(());
         }
-        if put < 0 && !is_passing(b"foldframes: standard output") {
-            return false;
+        match output.write(&text[done..]) {
+            Ok(0) => break,
+            Ok(count) => done += count,
+            Err(error) => {
+                if !is_passing(&error) {
+                    return Err(Failure::Writing(error));
+                }
+            }
         }
-        done += io::count(put, &text[done..]);
-        tries -= 1;
     }
-    done == text.len()
+    Err(Failure::Writing(Error::from(ErrorKind::WriteZero)))
 }
 
-// Whether a call that failed may be made again: it was interrupted, or would have had to wait. Another failure is told on standard error.
-fn is_passing(what: &[u8]) -> bool {
-    let error = os::errno();
-    if error == libc::EINTR {
-        return true;
+// Whether a call that failed may be made again: it was interrupted, or would have had to wait, and then the processor is given to others.
+fn is_passing(error: &Error) -> bool {
+    match error.kind() {
+        ErrorKind::Interrupted => true,
+        ErrorKind::WouldBlock => {
+            thread::yield_now();
+            true
+        }
+        _ => false,
     }
-    if error == libc::EAGAIN {
-        libc::sched_yield();
-        return true;
-    }
-    os::fail(what);
-    false
 }
 
 fn line_room() -> [u8; frame::MOST_LINE]

@@ -1,7 +1,7 @@
 // The answer of the next weight's parts: 0 or the refusal's number, and their words in out.
 ghost use Rattle.std.specs.Prelude.{◌≡◌};
 ghost use Rattle.next.specs.Next.{next_outcome};
-ghost use Rattle.host_values.specs.Host.{answered, shown};
+ghost use Rattle.host_answers.specs.Host.{answered, shown};
 
 use next::Next;
 use table::Verdict;

@@ -12,7 +12,7 @@ ghost use Rattle.point.specs.Point.{vertex_answer, table_answer, equality_out, e
 ghost use Rattle.next.specs.Next.{eval_eq_answer, eval_next_answer};
 ghost use Rattle.poly.specs.Poly.{new_answer, new_out, next_out};
 ghost use Rattle.eq_batch.specs.Batch.{batch_answer, set_out, add_out};
-ghost use Rattle.host_values.specs.Host.{element_of, answered, shown};
+ghost use Rattle.host_answers.specs.Host.{element_of, answered, shown};
 ghost use Rattle.host.specs.declared.elements.Operation.TheVariants.{Add, Sub, Mul, Neg, Double};
 ghost use Rattle.host.specs.declared.elements.Operation.TheVariants.{MulBase, FromBase, MulRepeat};
 ghost use Rattle.host.specs.Elements.{single, element_answer, element_out};
@@ -91,7 +91,7 @@ pub extern "C" fn host_mul_repeat(x: &[u32; 4], y: &[u32; 4], times: u64, out: &
 pub extern "C" fn host_equality_at_vertex(point: &[u32], vertex: usize, out: &mut [u32; 4]) -> u32
     ensures { answered result out.new ≡ shown (vertex_answer point.now vertex) out.old }
 {
-    host_values::answers::give(point::equality::equality_at_vertex(point, vertex), out)
+    host_answers::give(point::equality::equality_at_vertex(point, vertex), out)
 }
 
 #[unsafe(no_mangle)]
@@ -115,7 +115,7 @@ pub extern "C" fn host_eval_eq(point: &[u32], other: &[u32], out: &mut [u32; 4])
     ensures { answered result out.new
         ≡ shown (eval_eq_answer point.now other.now) out.old }
 {
-    host_values::answers::give(next::eval_eq(point, other), out)
+    host_answers::give(next::eval_eq(point, other), out)
 }
 
 #[unsafe(no_mangle)]
@@ -130,7 +130,7 @@ pub extern "C" fn host_eval_next(point: &[u32], other: &[u32], out: &mut [u32; 1
 pub extern "C" fn host_eval_select(point: &[u32], var: u32, out: &mut [u32; 4]) -> u32
     ensures { answered result out.new ≡ shown (eval_select_answer var point.now) out.old }
 {
-    host_values::answers::give(point::select::eval_select(var, point), out)
+    host_answers::give(point::select::eval_select(var, point), out)
 }
 
 #[unsafe(no_mangle)]

@@ -82,7 +82,7 @@ pub extern "C" fn host_session_read(
         return NO_SESSION;
     }
     let read = session::read(session_of(head, coordinates), place, out);
-    host_values::answers::give(read, element)
+    host_answers::give(read, element)
 }
 
 // The session of these words.

@@ -2,7 +2,7 @@
 ghost use Rattle.std.specs.Prelude.{◌≡◌, [], ◌∷◌};
 ghost use Rattle.fixing.specs.declared.Rule.TheVariants.{Prefix, Suffix, Monomial};
 ghost use Rattle.fixing.specs.Fixing.{remaining_outcome, fix_answer, fix_out, sum_answer, sum_out};
-ghost use Rattle.host_values.specs.Host.{element_of, answered, shown};
+ghost use Rattle.host_answers.specs.Host.{element_of, answered, shown};
 
 use field::Element;
 use fixing::Remaining;

@@ -2,7 +2,6 @@
 // refusal's number. A scale is four numbers, as in the ward's calls; an answer that is one element is an array of four words.
 #![tactic(auto)]
 
-pub mod answers;
 pub mod fixed;
 
 ghost use Rattle.std.specs.Prelude.{◌≡◌};
@@ -12,7 +11,7 @@ ghost use Rattle.poly.specs.Values as poly;
 ghost use Rattle.split_tests.specs.SplitTests.{fold_answer, accumulate_answer};
 ghost use Rattle.split_eq.specs.Split.{scaled_base_answer, scaled_ext_answer, scaled_next_base_answer, last_answer};
 ghost use Rattle.split_eq.specs.Split.{base_work, ext_work, last_work, accumulate_work, accumulate_out, fold_work, fold_out};
-ghost use Rattle.host_values.specs.Host.{element_of, answered, shown};
+ghost use Rattle.host_answers.specs.Host.{element_of, answered, shown};
 
 use field::Element;
 
@@ -21,7 +20,7 @@ pub extern "C" fn host_poly_eval_base(table: &[u32], point: &[u32], out: &mut [u
     ensures { answered result out.new
         ≡ shown (poly.eval_base_answer table.now point.now) out.old }
 {
-    answers::give(poly::value::eval_base(table, point), out)
+    host_answers::give(poly::value::eval_base(table, point), out)
 }
 
 #[unsafe(no_mangle)]
@@ -29,7 +28,7 @@ pub extern "C" fn host_poly_eval_ext(table: &[u32], point: &[u32], out: &mut [u3
     ensures { answered result out.new
         ≡ shown (poly.eval_ext_answer table.now point.now) out.old }
 {
-    answers::give(poly::value::eval_ext(table, point), out)
+    host_answers::give(poly::value::eval_ext(table, point), out)
 }
 
 #[unsafe(no_mangle)]
@@ -37,7 +36,7 @@ pub extern "C" fn host_poly_eval_next_base(table: &[u32], point: &[u32], out: &m
     ensures { answered result out.new
         ≡ shown (poly.eval_next_base_answer table.now point.now) out.old }
 {
-    answers::give(poly::value::eval_next_base(table, point), out)
+    host_answers::give(poly::value::eval_next_base(table, point), out)
 }
 
 #[unsafe(no_mangle)]
@@ -59,7 +58,7 @@ pub extern "C" fn host_split_eval_base(
     let scale = Element {
         c: [scale0, scale1, scale2, scale3],
     };
-    answers::give(split_eq::value::eval_base(table, point, scale, work), out)
+    host_answers::give(split_eq::value::eval_base(table, point, scale, work), out)
 }
 
 #[unsafe(no_mangle)]
@@ -81,7 +80,7 @@ pub extern "C" fn host_split_eval_ext(
     let scale = Element {
         c: [scale0, scale1, scale2, scale3],
     };
-    answers::give(split_eq::value::eval_ext(table, point, scale, work), out)
+    host_answers::give(split_eq::value::eval_ext(table, point, scale, work), out)
 }
 
 #[unsafe(no_mangle)]
@@ -103,7 +102,7 @@ pub extern "C" fn host_split_eval_next_base(
     let scale = Element {
         c: [scale0, scale1, scale2, scale3],
     };
-    answers::give(
+    host_answers::give(
         split_eq::value::eval_next_base(table, point, scale, work),
         out,
     )
@@ -127,7 +126,7 @@ pub extern "C" fn host_last_scalar(
     let scale = Element {
         c: [scale0, scale1, scale2, scale3],
     };
-    answers::give(split_eq::scalar::last_scalar(point, scale, work), out)
+    host_answers::give(split_eq::scalar::last_scalar(point, scale, work), out)
 }
 
 #[unsafe(no_mangle)]

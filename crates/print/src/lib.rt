@@ -2,66 +2,62 @@
 #![tactic(auto)]
 
 use field::{Element, Value};
-use libc::STDOUT_FILENO;
+use std::io;
 use table::{Evaluation, Refusal, Verdict};
 
-pub fn text(bytes: &[u8]) {
-    io::write_all(STDOUT_FILENO, bytes);
+pub fn text(rt: &impl Print, bytes: &[u8]) -> io::Result<()> {
+    rt.write_all(bytes)
 }
 
-fn wide(word: u32) -> u64 {
-    word as u64
+pub fn word(rt: &impl Print, word: u32) -> io::Result<()> {
+    print!(rt; " {word}")
 }
 
-pub fn word(word: u32) {
-    text(b" ");
-    io::print_decimal(STDOUT_FILENO, wide(word));
-}
-
-pub fn count(n: u64) {
-    text(b" ");
-    io::print_decimal(STDOUT_FILENO, n);
+pub fn count(rt: &impl Print, n: u64) -> io::Result<()> {
+    print!(rt; " {n}")
 }
 
 // A number alone where the other coordinates are 0.
-pub fn value(v: Value) {
-    word(v.c0);
+pub fn value(rt: &impl Print, v: Value) -> io::Result<()> {
+    word(rt, v.c0)?;
     if v.c1 != 0 || v.c2 != 0 || v.c3 != 0 {
-        word(v.c1);
-        word(v.c2);
-        word(v.c3);
+        word(rt, v.c1)?;
+        word(rt, v.c2)?;
+        word(rt, v.c3)?;
     }
+    Ok(())
 }
 
-pub fn element(e: Element) {
-    value(e.value());
-    text(b"\n");
+pub fn element(rt: &impl Print, e: Element) -> io::Result<()> {
+    value(rt, e.value())?;
+    text(rt, b"\n")
 }
 
-pub fn evaluation(e: Evaluation) {
+pub fn evaluation(rt: &impl Print, e: Evaluation) -> io::Result<()> {
     match e {
-        Evaluation::Value(v) => value(v),
-        Evaluation::Refused(refusal) => refused(refusal),
+        Evaluation::Value(v) => value(rt, v)?,
+        Evaluation::Refused(refusal) => refused(rt, refusal)?,
     }
-    text(b"\n");
+    text(rt, b"\n")
 }
 
-pub fn refused(refusal: Refusal) {
-    text(b" refused");
-    word(Verdict::Refused(refusal).answer());
+pub fn refused(rt: &impl Print, refusal: Refusal) -> io::Result<()> {
+    text(rt, b" refused")?;
+    word(rt, Verdict::Refused(refusal).answer())
 }
 
 // The elements of a table that a call filled, or its refusal.
-pub fn table(answer: Verdict, out: &[u32]) {
+pub fn table(rt: &impl Print, answer: Verdict, out: &[u32]) -> io::Result<()> {
     match answer {
-        Verdict::Refused(refusal) => refused(refusal),
-        Verdict::Accepted => elements(out),
+        Verdict::Refused(refusal) => refused(rt, refusal)?,
+        Verdict::Accepted => elements(rt, out)?,
     }
-    text(b"\n");
+    text(rt, b"\n")
 }
 
-pub fn elements(out: &[u32]) {
+pub fn elements(rt: &impl Print, out: &[u32]) -> io::Result<()> {
     for i in 0..out.len() / 4 {
-        value(table::get(out, i).value());
+        value(rt, table::get(out, i).value())?;
     }
+    Ok(())
 }

@@ -6,21 +6,42 @@
 // the words of the first of them and, times 65536, those of work. From 23 on work is the table that a call changes, and b is it before.
 #![tactic(auto)]
 
-ghost use Rattle.std.specs.Prelude.{◌≡◌, ◌+◌, ◌<◌, ◌≤◌, length};
+ghost use Rattle.std.specs.Prelude.{◌≡◌, ◌+◌, ◌<◌, ◌≤◌, length, IfOk};
 
-use libc::STDIN_FILENO;
+use std::io;
+use std::io::{ErrorKind, Read};
 
 // The most words of a list: as many as 64 KiB hold.
 const MOST: usize = 7281;
 
-fn main() {
-    let mut text = io::large_buffer();
-    let got = io::read_full(STDIN_FILENO, &mut text);
+fn main(rt: HostRuntime) -> io::Result<()> {
+    let mut text = [0u8; 65536];
+    let got = fill(&mut rt.stdin(), &mut text)?;
     let words = decode(&text);
     let count = got / 9;
     if count <= MOST {
-        records(&words, count);
+        records(&rt, &words, count)?;
     }
+    Ok(())
+}
+
+// Reads until text is full or the input has ended, and answers how many bytes came.
+fn fill(input: &mut impl Read, text: &mut [u8]) -> io::Result<usize>
+    ensures { IfOk result (λ count. count ≤ length text.new) }
+{
+    let mut count = 0;
+    for _ in 0..u64::MAX {
+        match input.read(&mut text[count..]) {
+            Ok(0) => break,
+            Ok(more) => count += more,
+            Err(error) => {
+                if error.kind() != ErrorKind::Interrupted {
+                    return Err(error);
+                }
+            }
+        }
+    }
+    Ok(count)
 }
 
 fn room() -> [u32; 7281]
@@ -81,7 +102,7 @@ fn size(word: u32) -> usize
 }
 
 // Each record in turn.
-fn records(words: &[u32], count: usize)
+fn records(rt: &impl Print, words: &[u32], count: usize) -> io::Result<()>
     requires { count ≤ length words.now }
 {
     let mut same = 0;
@@ -93,11 +114,11 @@ fn records(words: &[u32], count: usize)
         all += 1;
         at = end;
     }
-    print::text(b"answers of the Rust replayed:");
-    print::count(same);
-    print::text(b" of");
-    print::count(all);
-    print::text(b" the same\n");
+    print::text(rt, b"answers of the Rust replayed:")?;
+    print::count(rt, same)?;
+    print::text(rt, b" of")?;
+    print::count(rt, all)?;
+    print::text(rt, b" the same\n")
 }
 
 // Where the record that starts at `at` ends: at the end of the list where it would pass it.

@@ -6,8 +6,10 @@ mod elements;
 mod fixed;
 mod points;
 
-fn main() {
-    elements::run();
-    points::run();
-    fixed::run();
+use std::io;
+
+fn main(rt: HostRuntime) -> io::Result<()> {
+    elements::run(&rt)?;
+    points::run(&rt)?;
+    fixed::run(&rt)
 }

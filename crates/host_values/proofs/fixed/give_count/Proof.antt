@@ -1,7 +1,7 @@
 -- `host_values::fixed::give_count` meets its contract, by the case of the answer. Assumes nothing.
 use borrow.Author.Rules.{rules}
-use Rattle.host_values.specs.Host.{answered}
-use Rattle.host_values.proofs.Showing.{accepted, refused}
+use Rattle.host_answers.specs.Host.{answered}
+use Rattle.host_answers.proofs.Showing.{accepted, refused}
 use Rattle.host_values.proofs.fixed.give_count.Statement.{statement}
 use Rattle.host_values.proofs.fixed.give_count.Tie as tie
 

@@ -5,7 +5,7 @@ use mathlib.Core.List.{List, []}
 use Rattle.table.specs.Refusals.{number}
 use Rattle.table.specs.declared.Refusal.{Refusal}
 use Rattle.table.proofs.Answers.{kept}
-use Rattle.host_values.specs.Host.{answered, shown}
+use Rattle.host_answers.specs.Host.{answered, shown}
 
 pub accepted : (words was : List ℕ) → answered 0 words ≡ shown (answered 0 words) was
 unfolding answered shown

@@ -1,7 +1,9 @@
 // Answers with an element: 0 or the refusal's number, and the element's words in out.
+#![tactic(auto)]
+
 ghost use Rattle.std.specs.Prelude.{◌≡◌};
 ghost use Rattle.table.specs.Refusals.{outcome};
-ghost use Rattle.host_values.specs.Host.{answered, shown};
+ghost use Rattle.host_answers.specs.Host.{answered, shown};
 
 use table::{Evaluation, Verdict};
 
