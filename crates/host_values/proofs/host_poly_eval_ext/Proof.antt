@@ -3,5 +3,5 @@ use borrow.Author.Rules.{rules}
 use Rattle.host_values.proofs.host_poly_eval_ext.Statement.{statement}
 use Rattle.host_values.proofs.host_poly_eval_ext.Tie as tie
 
-pub host-poly-eval-ext-spec : {M : Type 1} → statement M
-host-poly-eval-ext-spec = tie.close (tie.spec (λ c κs. search rules) (λ c κs. search rules) (λ c. rw (c.give.ensures, c.before.before.eval-ext.ensures)))
+pub host_poly_eval_ext_spec : {M : Type 1} → statement M
+host_poly_eval_ext_spec = tie.close (tie.spec (λ c κs. search rules) (λ c κs. search rules) (λ c. rw (c.give.ensures, c.before.before.eval_ext.ensures)))

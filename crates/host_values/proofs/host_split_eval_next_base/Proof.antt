@@ -3,5 +3,5 @@ use borrow.Author.Rules.{rules}
 use Rattle.host_values.proofs.host_split_eval_next_base.Statement.{statement}
 use Rattle.host_values.proofs.host_split_eval_next_base.Tie as tie
 
-pub host-split-eval-next-base-spec : {M : Type 1} → statement M
-host-split-eval-next-base-spec = tie.close (tie.spec (λ c κs. search rules) (λ c κs. search rules) (search rules) (λ c. (search rules, rw (c.give.ensures, c.before.before.before.before.eval-next-base.ensures.0))))
+pub host_split_eval_next_base_spec : {M : Type 1} → statement M
+host_split_eval_next_base_spec = tie.close (tie.spec (λ c κs. search rules) (λ c κs. search rules) (search rules) (λ c. (search rules, rw (c.give.ensures, c.before.before.before.before.eval_next_base.ensures.0))))

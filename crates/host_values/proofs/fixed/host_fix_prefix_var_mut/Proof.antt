@@ -3,5 +3,5 @@ use borrow.Author.Rules.{rules}
 use Rattle.host_values.proofs.fixed.host_fix_prefix_var_mut.Statement.{statement}
 use Rattle.host_values.proofs.fixed.host_fix_prefix_var_mut.Tie as tie
 
-pub host-fix-prefix-var-mut-spec : {M : Type 1} → statement M
-host-fix-prefix-var-mut-spec = tie.close (tie.spec (λ c κs. search rules) (λ c κs. search rules) (search rules) (λ c. (search rules, rw (c.give-count.ensures, c.before.before.before.before.fix-prefix-var-mut.ensures.0))))
+pub host_fix_prefix_var_mut_spec : {M : Type 1} → statement M
+host_fix_prefix_var_mut_spec = tie.close (tie.spec (λ c κs. search rules) (λ c κs. search rules) (search rules) (λ c. (search rules, rw (c.give_count.ensures, c.before.before.before.before.fix_prefix_var_mut.ensures.0))))
