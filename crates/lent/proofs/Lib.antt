@@ -1,3 +1,2 @@
-pub mod Values
+-- Lemmas of the lent calls.
 pub mod Fields
-pub mod Lending

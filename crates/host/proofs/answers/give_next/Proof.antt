@@ -5,15 +5,15 @@ use Rattle.host_answers.proofs.Showing.{accepted, refused}
 use Rattle.host.proofs.answers.give_next.Statement.{statement}
 use Rattle.host.proofs.answers.give_next.Tie as tie
 
-returns : tie.Need-returns
+returns : tie.Need-returns-in-Refused
 unfolding answered
 returns c =
-    let told = c.before.before in
-    rw told.e.given.1 (refused told.e.given.0.0 _ c.answer.ensures)
+    let told = c.before in
+    rw told.in-Refused.is (refused told.in-Refused.refusal _ c.answer.ensures)
 
-returns-2 : tie.Need-returns-2
+returns-2 : tie.Need-returns-in-Parts
 unfolding answered
-returns-2 c = rw c.before.before.e2.given.1 (accepted _ _)
+returns-2 c = rw c.before.in-Parts.is (accepted _ _)
 
-pub give-next-spec : {M : Type 1} → statement M
-give-next-spec = tie.close (tie.spec (search rules) (λ c κs. search rules) (search rules) returns returns-2)
+pub give_next_spec : {M : Type 1} → statement M
+give_next_spec = tie.close (tie.spec (search rules) (λ c κs. search rules) (search rules) returns returns-2)

@@ -16,11 +16,11 @@ decreases-loop y times product₀ counter₀ product counter = times - counter
 loop-holds : tie.Need-loop-init invariant-loop decreases-loop
 loop-holds c = start _ _ _ (search rules) c.requires.0
 
-mul-requires : tie.Need-mul-requires invariant-loop decreases-loop
+mul-requires : tie.Need-mul-product-requires invariant-loop decreases-loop
 mul-requires c κs = search rules
 
 loop-again : tie.Need-loop-preserved invariant-loop decreases-loop
-loop-again c = turn _ _ _ _ _ c.before.before.loop.invariant (omega arith) c.mul.ensures
+loop-again c = turn _ _ _ _ _ c.before.before.loop.invariant (omega arith) c.mul-product.ensures
 
 returns : tie.Need-returns invariant-loop decreases-loop
 returns c =
@@ -28,6 +28,6 @@ returns c =
     let e : at.loop.counter ≡ at.before.args.times = omega arith in
     rw e at at.loop.invariant.value
 
-pub chain-spec : {M : Type 1} → statement M
-chain-spec =
+pub chain_spec : {M : Type 1} → statement M
+chain_spec =
     tie.close (tie.spec invariant-loop decreases-loop loop-holds mul-requires (λ c. omega arith) (λ c. omega arith) loop-again returns)

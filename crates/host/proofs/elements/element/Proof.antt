@@ -4,8 +4,8 @@ use Rattle.field.proofs.Laws.{word_below}
 use Rattle.host.proofs.elements.element.Statement.{statement}
 use Rattle.host.proofs.elements.element.Tie as tie
 
-pub element-spec : {M : Type 1} → statement M
-element-spec =
+pub element_spec : {M : Type 1} → statement M
+element_spec =
     tie.close
     (tie.spec
     (search rules)
@@ -26,11 +26,11 @@ element-spec =
     (λ c κs. search (rules, word_below))
     (search rules)
     (λ c κs. search rules)
-    (λ c. rw c.before.enum_told.given.1 c.add.ensures)
-    (λ c. rw c.before.enum-told2.given.1 c.sub.ensures)
-    (λ c. rw c.before.enum-told3.given.1 c.mul.ensures)
-    (λ c. rw c.before.enum-told4.given.1 c.neg.ensures)
-    (λ c. rw c.before.enum-told5.given.1 c.double.ensures)
-    (λ c. rw c.before.before.enum-told6.given.1 c.mul-base.ensures)
-    (λ c. rw c.before.before.enum-told7.given.1 c.from-base.ensures)
-    (λ c. rw c.before.before.operation.given.1 c.chain.ensures))
+    (λ c. rw c.before.in-Add.is c.add.ensures)
+    (λ c. rw c.before.in-Sub.is c.sub.ensures)
+    (λ c. rw c.before.in-Mul.is c.mul.ensures)
+    (λ c. rw c.before.in-Neg.is c.neg.ensures)
+    (λ c. rw c.before.in-Double.is c.double.ensures)
+    (λ c. rw c.before.before.in-MulBase.is c.mul_base.ensures)
+    (λ c. rw c.before.before.in-FromBase.is c.from_base.ensures)
+    (λ c. rw c.before.in-MulRepeat.is c.chain.ensures))
