@@ -9,7 +9,7 @@ use borrow.Author.Tests.{eqb-true, eqb-false}
 use Rattle.algebra.specs.Ring.{Ops, CommRing}
 use Rattle.algebra.specs.Quartic.{Quartic, quartic, constant}
 use Rattle.algebra.specs.Lines.{Line, line, lines, count, Each, gather, X, power, coordinate, element, ProductOfPowers, sum_of, row, LineLaws}
-use Rattle.algebra.proofs.Normal.{Expr, var, zer, one, add, mul, expr_ops, agree}
+use Rattle.algebra.proofs.Normal.{Expr, var, one, mul, expr_ops, agree}
 use Rattle.algebra.proofs.Solve.{den}
 use Rattle.algebra.proofs.Quartics.{A, B, QE, env, read, four}
 

@@ -2,7 +2,7 @@
 -- expressions agree if what is left of their difference has every coefficient zero. A coefficient is a pair of numbers, what is added
 -- and what is taken away. Assumes nothing.
 use mathlib.Core.List.{List, [], ◌∷◌}
-use mathlib.Core.Bool.{Bool, true, false, ◌&&◌}
+use mathlib.Core.Bool.{Bool, true, ◌&&◌}
 use Prim.Native.Nat.{ℕ, ◌+◌, ◌*◌, compare, Ordering}
 use lib.Dec.{eqb}
 use Rattle.algebra.specs.Ring.{Ops}

@@ -10,8 +10,8 @@ use Rattle.algebra.specs.Ring.{Ops, minus}
 use Rattle.algebra.specs.Residue.{Residue, reduce, residues}
 use Rattle.algebra.specs.Quartic.{Quartic, quartic, constant}
 use Rattle.algebra.specs.Words.{numbers}
-use Rattle.algebra.specs.Lines.{Line, LineLaws, lines, gather, sums, row}
-use Rattle.algebra.proofs.Residues.{residue_ring, reduce_val, reduce_add, reduce_mul, reduce_mod, reduce_neg, reduce_same}
+use Rattle.algebra.specs.Lines.{Line, lines, gather, sums, row}
+use Rattle.algebra.proofs.Residues.{residue_ring, reduce_val, reduce_add, reduce_mul, reduce_neg, reduce_same}
 use Rattle.algebra.proofs.Quartics.{mul_constant, quartic_path}
 use Rattle.algebra.proofs.Lines.{line_laws}
 

@@ -11,7 +11,6 @@ use Rattle.octets.specs.Octets.{words}
 use Rattle.multilinear.specs.declared.Side.{Side}
 use Rattle.multilinear.specs.declared.Side.TheVariants.{Prefix, Suffix}
 use Rattle.table.proofs.Laws.{table_length}
-use Rattle.plan.specs.declared.Plan.{Plan}
 use Rattle.plan.specs.Plan.{places, capacity}
 use Rattle.plan.proofs.Joining.{none}
 use Rattle.plan.proofs.Sections.{all_words}

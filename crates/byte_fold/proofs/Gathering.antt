@@ -1,6 +1,6 @@
 -- A block of a section's words, where they stand in the table: they are there, and what is read is the block. Assumes nothing.
 use mathlib.Core.Path.{◌≡◌, sym, ap, ◌∙◌}
-use Prim.Native.Nat.{ℕ, ◌+◌, ◌-◌, ◌*◌, ◌/◌, ◌%◌, ◌^◌, ◌≤◌, ◌<◌}
+use Prim.Native.Nat.{ℕ, ◌+◌, ◌-◌, ◌*◌, ◌/◌, ◌%◌, ◌^◌, ◌≤◌}
 use native.Mathlib.Nat.{add-mul, add_assoc, mul_comm, mul-le-mul_right, le_of_mul-le-mul_right, mul-add-div_right, mul-add-mod_self_right, div-add-mod'}
 use native.Mathlib.Omega.{arith}
 use mathlib.Core.List.{List}
@@ -13,7 +13,7 @@ use Rattle.plan.specs.Plan.{rows, places, capacity}
 use Rattle.plan.specs.Section.{origin_of}
 use Rattle.plan.proofs.Sections.{all_words}
 use Rattle.byte_fold.specs.declared.Section.{Section}
-use Rattle.byte_fold.specs.Inner.{Cut, Portion, Strided, section_at, block_at, first_words, row_word}
+use Rattle.byte_fold.specs.Inner.{Cut, Portion, Strided, block_at, first_words, row_word}
 use Rattle.byte_fold.proofs.Words.{first_ext, first_part}
 
 module _ {s : Section} {table : List ℕ} {at count : ℕ} (d : Cut s table) (b : Portion s.plan at count) where

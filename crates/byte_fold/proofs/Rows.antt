@@ -1,5 +1,5 @@
 -- Rows of words read from a table one by one, each into its part of a block: how that starts, steps and ends. Assumes nothing.
-use mathlib.Core.Path.{◌≡◌, refl, sym, ap, ◌∙◌}
+use mathlib.Core.Path.{◌≡◌, sym, ap, ◌∙◌}
 use Prim.Native.Nat.{ℕ, ◌+◌, ◌-◌, ◌*◌, ◌/◌, ◌%◌, ◌≤◌, ◌<◌}
 use native.Mathlib.Nat.{zero-mul, add-zero, suc-mul, mul-le-mul_right, div-mul-le_self, mul-add-div_right, mul-add-mod_self_right, div-eq_of_lt, mod-eq_of_lt, div-add-mod'}
 use native.Mathlib.Omega.{arith}
@@ -7,7 +7,7 @@ use mathlib.Core.List.{List}
 use lib.ListN.{length, get_or, take, drop}
 use borrow.Rule.Slice.PartMut.{mid_of, put_mid}
 use Rattle.byte_fold.specs.Inner.{first_words, row_word}
-use Rattle.byte_fold.proofs.Words.{first_length, first_ext, first_part, first_append}
+use Rattle.byte_fold.proofs.Words.{first_length, first_part, first_append}
 use Rattle.piece.proofs.Fronts.{Front, front_start, front_lent, front_turn, front_end}
 
 -- row r is all in a block of `count` words

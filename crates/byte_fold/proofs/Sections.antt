@@ -3,7 +3,7 @@ use mathlib.Core.Path.{◌≡◌, sym, ap, ◌∙◌}
 use Prim.Native.Nat.{ℕ, ◌+◌, ◌-◌, ◌*◌, ◌^◌, ◌≤◌, ◌<◌, min}
 use native.Mathlib.Nat.{mul-zero, mul-add, mul-one, mul-le-mul_left}
 use native.Mathlib.Omega.{arith}
-use mathlib.Core.List.{List, ◌++◌}
+use mathlib.Core.List.{List}
 use lib.ListN.{length, get_or}
 use lib.Pow.{pow-add}
 use borrow.Rule.Slice.PartMut.{mid_of, put_mid}
@@ -14,7 +14,7 @@ use Rattle.table.specs.Table.{table_words}
 use Rattle.table.proofs.Laws.{table_length, table_append}
 use Rattle.plan.specs.declared.Plan.{Plan}
 use Rattle.plan.specs.Plan.{rows, places, capacity, place_of, fold_of}
-use Rattle.plan.specs.Section.{section_of, origin_of}
+use Rattle.plan.specs.Section.{origin_of}
 use Rattle.plan.proofs.Sections.{all_words, places_of, section}
 use Rattle.byte_fold.specs.declared.Section.{Section}
 use Rattle.byte_fold.specs.Inner.{FillsBytes, cut_of, Cut, sums_to}

@@ -5,7 +5,6 @@ use Prim.Native.Nat.{ℕ, zero, suc, ◌+◌, ◌*◌, ◌≤◌}
 use native.Mathlib.Nat.{add-zero, mul-zero}
 use native.Mathlib.Numerals.{add-one}
 use native.Mathlib.Omega.{arith}
-use Rattle.algebra.specs.Ring.{Ops}
 use Rattle.algebra.specs.Residue.{reduce, residues}
 use Rattle.algebra.specs.Quartic.{quartic}
 use Rattle.algebra.specs.Sum.{sum_to}

@@ -1,6 +1,5 @@
 -- `eval_eq_batch` (document 01, "Beside these"; "Refused calls": Batch): n rows of w coordinates, column j a point. Assumes nothing.
 use Rattle.std.specs.Prelude.{ℕ, zero, suc, ◌+◌, ◌*◌, ◌^◌, Bool, true, false, not, ◌&&◌, cond, List, [], ◌∷◌, eqb, ltb, length}
-use Rattle.algebra.specs.Ring.{Ops}
 use Rattle.algebra.specs.Words.{unreduced}
 use Rattle.multilinear.specs.Beside.{eval_batch}
 use Rattle.field.specs.Field.{p, Ext, field}

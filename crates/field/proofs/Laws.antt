@@ -1,9 +1,9 @@
 -- The field is a commutative ring, and what the code computes on words are its operations. Assumes nothing.
-use Rattle.std.proofs.Common.{◌≡◌, ℕ, ◌+◌, ◌-◌, ◌*◌, ◌%◌, ◌<◌, false, List, [], ◌∷◌, length, get_or, sym, refl, ap, ◌∙◌, mod-eq_of_lt, arith}
-use Rattle.algebra.specs.Ring.{Ops, CommRing, minus}
-use Rattle.algebra.specs.Residue.{Residue, reduce, residues}
-use Rattle.algebra.specs.Quartic.{Quartic, quartic, constant}
-use Rattle.algebra.specs.Words.{words_of, numbers, unreduced}
+use Rattle.std.proofs.Common.{◌≡◌, ℕ, ◌+◌, ◌-◌, ◌*◌, ◌%◌, ◌<◌, List, [], ◌∷◌, length, get_or, sym, refl, ap, ◌∙◌, mod-eq_of_lt, arith}
+use Rattle.algebra.specs.Ring.{CommRing, minus}
+use Rattle.algebra.specs.Residue.{reduce, residues}
+use Rattle.algebra.specs.Quartic.{quartic, constant}
+use Rattle.algebra.specs.Words.{words_of, numbers}
 use Rattle.algebra.proofs.Residues.{residue_ring, reduce_mod, reduce_mul, add_mul_mod}
 use Rattle.algebra.proofs.Quartics.{quartic_ring, constant_mul}
 use Rattle.algebra.proofs.Words.{below, words_reduced}

@@ -1,9 +1,8 @@
 -- The lines of a product: what one asks, what it gains, and what the sums of four are. Assumes nothing.
-use Rattle.std.proofs.Common.{◌≡◌, ℕ, suc, ◌+◌, ◌-◌, ◌*◌, ◌<◌, ◌≤◌, Bool, true, false, cond, T, eqb, List, [], ◌∷◌, length, sym, refl, ap, ◌∙◌, add-zero, arith, eq-eqb, ne_eqb}
-use Rattle.algebra.specs.Ring.{Ops}
+use Rattle.std.proofs.Common.{◌≡◌, ℕ, ◌+◌, ◌-◌, ◌*◌, ◌<◌, ◌≤◌, Bool, cond, T, List, [], ◌∷◌, length, sym, ap, ◌∙◌, add-zero, arith, eq-eqb, ne_eqb}
 use Rattle.algebra.specs.Residue.{reduce, residues}
 use Rattle.algebra.specs.Lines.{Line, line}
-use Rattle.algebra.proofs.Normal.{Expr, var, one}
+use Rattle.algebra.proofs.Normal.{var, one}
 use Rattle.algebra.proofs.Residues.{residue_ring}
 use Rattle.algebra.proofs.Lines.{ticked, product_of_powers}
 use Rattle.field.specs.declared.Element.{Element}

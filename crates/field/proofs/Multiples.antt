@@ -1,6 +1,5 @@
 -- A product with a base word gained, coordinate by coordinate. Assumes nothing.
 use Rattle.std.proofs.Common.{◌≡◌, ℕ, ◌+◌, ◌*◌, ap, ◌∙◌}
-use Rattle.algebra.specs.Ring.{Ops}
 use Rattle.algebra.specs.Words.{numbers}
 use Rattle.algebra.proofs.Numbers.{numbers_add, numbers_scale}
 use Rattle.field.specs.Field.{p, p_pos, factor, field, base}

@@ -1,6 +1,5 @@
 -- The lines of a product, on words. No operation that users call cites it. Assumes nothing.
 use Rattle.std.specs.Prelude.{◌≡◌, ℕ, ◌+◌, ◌-◌, ◌*◌, ◌≤◌, true, false, cond, ◌==◌}
-use Rattle.algebra.specs.Ring.{Ops}
 use Rattle.algebra.specs.Residue.{reduce, residues}
 use Rattle.algebra.specs.Lines.{power, sums}
 use Rattle.field.specs.declared.Element.{Element}

@@ -1,7 +1,5 @@
 -- Number and words determine the answer of fixing and summing. Assumes nothing.
 use mathlib.Core.Path.{◌≡◌, sym, ap}
-use Prim.Native.Nat.{ℕ}
-use mathlib.Core.List.{List, [], ◌∷◌}
 use lib.ListN.{get_or}
 use Rattle.table.specs.Refusals.{Outcome}
 use Rattle.table.proofs.Answers.{number_one, number_some}

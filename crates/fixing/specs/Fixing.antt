@@ -1,6 +1,5 @@
 -- Fixing a variable of a table (document 01, "Beside these"; "Refused calls": Fixing). Assumes nothing.
 use Rattle.std.specs.Prelude.{ℕ, ◌+◌, ◌*◌, ◌/◌, cond, List, [], ◌∷◌, ◌++◌, eqb, drop}
-use Rattle.algebra.specs.Ring.{Ops}
 use Rattle.algebra.specs.Words.{unreduced}
 use Rattle.multilinear.specs.Beside.{line}
 use Rattle.field.specs.Field.{p, Ext, field, from_words}

@@ -4,7 +4,6 @@ use Prim.Native.Nat.{ℕ, ◌+◌, ◌≤◌, ◌<◌}
 use native.Mathlib.Numerals.{add-one}
 use native.Mathlib.Omega.{arith}
 use lib.ListN.{length}
-use Rattle.algebra.specs.Ring.{Ops, CommRing}
 use Rattle.multilinear.specs.Beside.{power}
 use Rattle.field.specs.Field.{field, from_words, Reduced, Holds}
 use Rattle.field.specs.declared.Element.{Element}

@@ -1,6 +1,6 @@
 -- Element operations. Assumes nothing.
 use Rattle.std.specs.Prelude.{ℕ, ◌||◌, cond, List, [], ◌∷◌}
-use Rattle.algebra.specs.Ring.{Ops, minus}
+use Rattle.algebra.specs.Ring.{minus}
 use Rattle.algebra.specs.Words.{words_of, unreduced}
 use Rattle.multilinear.specs.Beside.{power}
 use Rattle.field.specs.Field.{p, Ext, field, base, from_words, at}

@@ -3,7 +3,6 @@ use mathlib.Core.Path.{◌≡◌, refl, ap, ◌∙◌}
 use mathlib.Core.List.{[], ◌∷◌}
 use Prim.Native.Nat.{ℕ, ◌+◌, ◌*◌, ◌%◌}
 use native.Mathlib.Omega.{arith}
-use Rattle.algebra.specs.Ring.{Ops, CommRing}
 use Rattle.algebra.specs.Residue.{reduce, residues}
 use Rattle.algebra.specs.Quartic.{quartic}
 use Rattle.algebra.specs.Words.{words_of, numbers}

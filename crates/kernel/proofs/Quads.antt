@@ -4,7 +4,6 @@ use mathlib.Core.Path.{◌≡◌, ap, ap₂, ◌∙◌}
 use mathlib.Core.Bool.{false}
 use Prim.Native.Nat.{ℕ}
 use mathlib.Core.List.{List, [], ◌∷◌}
-use Rattle.algebra.specs.Ring.{Ops, CommRing}
 use Rattle.algebra.specs.Words.{unreduced}
 use Rattle.algebra.proofs.Ring.{add_mul}
 use Rattle.algebra.proofs.Reading.{reading, ring}

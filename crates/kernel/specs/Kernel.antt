@@ -1,6 +1,5 @@
 -- What the additions to out take and give. No operation that users call cites it. Assumes nothing.
 use Rattle.std.specs.Prelude.{◌≡◌, false, ℕ, ◌+◌, ◌*◌, ◌≤◌, List, length, get_or}
-use Rattle.algebra.specs.Ring.{Ops}
 use Rattle.algebra.specs.Words.{unreduced}
 use Rattle.field.specs.Field.{p, Ext, field, base, from_words}
 use Rattle.field.specs.declared.Element.{Element}

@@ -16,10 +16,10 @@ use Rattle.multilinear.proofs.Folds.{fold_laws}
 use Rattle.field.specs.Field.{Ext, field, base, to_words, from_words}
 use Rattle.field.proofs.Laws.{field_ring}
 use Rattle.table.specs.Table.{get_at, element_at}
-use Rattle.table.specs.Refusals.{◌gives◌, verdict, Outcome, alone, evaluated}
+use Rattle.table.specs.Refusals.{verdict, Outcome, alone, evaluated}
 use Rattle.table.proofs.Laws.{table_words_at, table_at, elements_length}
 use Rattle.plan.specs.declared.Plan.{Plan}
-use Rattle.plan.specs.Plan.{places, coordinates_of, weight_in, place_of, fold_of}
+use Rattle.plan.specs.Plan.{places, coordinates_of, weight_in, place_of}
 use Rattle.ledger.specs.Session.{State, Args, planned, open_answer, read_answer}
 use Rattle.ledger.specs.Ledger.{Call, feed, close, read, run, session_step, joined}
 use Rattle.ledger.specs.Demand3.{answers, after, unread, unread_answers, place_at, with_weight, last_gain, Demand3}

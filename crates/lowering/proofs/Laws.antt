@@ -1,11 +1,10 @@
 -- What is multiplied by 2³² and by its inverse is what it was. Assumes nothing.
 use Rattle.std.proofs.Common.{◌≡◌, ℕ, ◌*◌, ◌%◌, sym, refl, ap, ◌∙◌, mul_assoc}
-use Rattle.algebra.specs.Ring.{Ops, CommRing}
 use Rattle.algebra.specs.Residue.{reduce, residues}
 use Rattle.algebra.specs.Quartic.{quartic, constant}
 use Rattle.algebra.proofs.Residues.{mul_mod_mod}
 use Rattle.field.specs.Field.{p, factor, field, base}
-use Rattle.field.proofs.Laws.{field_ring, base_mul}
+use Rattle.field.proofs.Laws.{base_mul}
 use Rattle.field.specs.Inner.{unit}
 use Rattle.lowering.specs.Lowering.{unit_inverse}
 

@@ -10,7 +10,6 @@ use mathlib.Core.List.{List}
 use lib.Dec.{ltb}
 use lib.ListN.{length, get_or, take, drop}
 use lib.Pow.{pow_pos, pow_mono}
-use Rattle.algebra.specs.Ring.{Ops}
 use Rattle.algebra.specs.Sum.{sum_to}
 use Rattle.multilinear.specs.declared.Side.TheVariants.{Suffix}
 use Rattle.multilinear.specs.Equality.{eq_at}

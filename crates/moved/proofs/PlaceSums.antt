@@ -8,7 +8,6 @@ use mathlib.Core.List.{List}
 use lib.Dec.{ltb}
 use lib.ListN.{length, take, drop}
 use borrow.Author.Tests.{lt-ltb, le-ltb}
-use Rattle.algebra.specs.Ring.{Ops}
 use Rattle.algebra.specs.Sum.{sum_to}
 use Rattle.algebra.proofs.Ring.{zero_add, mul_zero}
 use Rattle.algebra.proofs.Sums.{sum_ext}

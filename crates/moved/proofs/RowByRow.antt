@@ -10,7 +10,6 @@ use lib.Dec.{ltb}
 use lib.ListN.{length}
 use lib.Pow.{pow_pos}
 use borrow.Author.Tests.{lt-ltb, le-ltb}
-use Rattle.algebra.specs.Ring.{Ops}
 use Rattle.multilinear.specs.declared.Side.TheVariants.{Prefix}
 use Rattle.multilinear.specs.declared.Weight.TheVariants.{Plain}
 use Rattle.multilinear.specs.Folds.{fold_at}

@@ -1,6 +1,5 @@
 -- The weights of few rows, from a block's table. No operation that users call cites it. Assumes nothing.
 use Rattle.std.specs.Prelude.{cond, ℕ, ◌-◌, List, ltb}
-use Rattle.algebra.specs.Ring.{Ops}
 use Rattle.field.specs.Field.{Ext, field, Holds}
 use Rattle.table.specs.Table.{element_at}
 use Rattle.kernel.specs.declared.Weights.{Weights}

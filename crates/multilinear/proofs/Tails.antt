@@ -16,7 +16,7 @@ use Rattle.multilinear.specs.declared.Weight.TheVariants.{Plain}
 use Rattle.multilinear.specs.Equality.{bit, eq_at}
 use Rattle.multilinear.specs.Tails.{tail_at}
 use Rattle.multilinear.specs.Inner.{tail_step, tail_by}
-use Rattle.multilinear.specs.Laws.{EqualityLaws, TailLaws}
+use Rattle.multilinear.specs.Laws.{TailLaws}
 use Rattle.multilinear.proofs.Equality.{eq_low, eq_high}
 use Rattle.multilinear.proofs.EqualityLaws.{equality_laws}
 use Rattle.multilinear.proofs.Halves.{sum_scaled}

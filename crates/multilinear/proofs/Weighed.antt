@@ -1,6 +1,6 @@
 -- Folds by rows that are moved on and a last row beside them, and a fold by the halves of its rows, down to one row. Assumes nothing.
 use mathlib.Core.Path.{◌≡◌, sym, ap, ap₂, ◌∙◌}
-use Prim.Native.Nat.{ℕ, zero, suc, ◌+◌, ◌*◌, ◌^◌, ◌<◌, ◌≤◌}
+use Prim.Native.Nat.{ℕ, suc, ◌+◌, ◌*◌, ◌^◌, ◌<◌, ◌≤◌}
 use native.Mathlib.Decide.{dec_lt}
 use native.Mathlib.Nat.{add-mul, add_assoc, mul-le-mul_right}
 use native.Mathlib.Omega.{arith}
@@ -22,7 +22,6 @@ use Rattle.multilinear.specs.Equality.{eq_at}
 use Rattle.multilinear.specs.Successors.{last_row}
 use Rattle.multilinear.specs.Folds.{word_of, fold_at}
 use Rattle.multilinear.specs.Inner.{moved_at, skip_of, own_at}
-use Rattle.multilinear.specs.Laws.{FoldLaws}
 use Rattle.multilinear.proofs.Equality.{eq_low, eq_high}
 use Rattle.multilinear.proofs.Halves.{sum_halves}
 use Rattle.multilinear.proofs.Folds.{word_is_row, fold_laws, moved_plain, moved_shifted, moved_ext}

@@ -3,7 +3,7 @@ use Rattle.std.specs.Prelude.{◌≡◌, cond, ℕ, ◌+◌, ◌-◌, ◌*◌, �
 use Rattle.algebra.specs.Ring.{Ops, minus}
 use Rattle.algebra.specs.Sum.{sum_to}
 use Rattle.multilinear.specs.Equality.{reverse_bits, eq_at, eq_lsb_at, vertex_point}
-use Rattle.multilinear.specs.Successors.{NextParts, last_row, shifted_at, next_at, eval_next}
+use Rattle.multilinear.specs.Successors.{last_row, shifted_at, next_at, eval_next}
 use Rattle.multilinear.specs.Beside.{eval_eq, line}
 use Rattle.multilinear.specs.Values.{value_at, next_value_at}
 use Rattle.multilinear.specs.declared.Side.{Side}

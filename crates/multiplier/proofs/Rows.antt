@@ -1,10 +1,9 @@
 -- A product by the rows of its lines, where what comes back was multiplied by X⁴ before. Assumes nothing.
 use Prim.Native.Nat.{ℕ, ◌+◌, ◌*◌, ◌%◌}
 use mathlib.Core.Path.{◌≡◌, refl, sym, ap, ◌∙◌}
-use mathlib.Core.Bool.{true, false}
+use mathlib.Core.Bool.{true}
 use mathlib.Core.List.{[], ◌∷◌}
 use native.Mathlib.Nat.{mod-mod}
-use Rattle.algebra.specs.Ring.{Ops, CommRing}
 use Rattle.algebra.specs.Residue.{reduce}
 use Rattle.algebra.specs.Words.{words_of, numbers}
 use Rattle.algebra.specs.Lines.{lines, gather, sums}
@@ -14,7 +13,7 @@ use Rattle.field.specs.declared.Element.{Element}
 use Rattle.field.specs.Field.{p, p_pos, factor, Ext, field, base, to_words, from_words, at, Holds}
 use Rattle.field.specs.Inner.{unit}
 use Rattle.field.specs.Product.{once_at, back_at}
-use Rattle.field.proofs.Laws.{field_ring, words, holds, read_as, scale_law}
+use Rattle.field.proofs.Laws.{field_ring, words, read_as, scale_law}
 use Rattle.lowering.specs.Lowering.{unit_inverse}
 use Rattle.lowering.proofs.Laws.{raised_lowered}
 use Rattle.multiplier.specs.declared.Multiplier.{Multiplier}

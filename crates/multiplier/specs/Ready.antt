@@ -1,6 +1,5 @@
 -- What a factor that was made ready holds, and the words of a product by it. No operation that users call cites it. Assumes nothing.
-use Rattle.std.specs.Prelude.{◌≡◌, ℕ}
-use Rattle.algebra.specs.Ring.{Ops}
+use Rattle.std.specs.Prelude.{ℕ}
 use Rattle.field.specs.declared.Element.{Element}
 use Rattle.field.specs.Field.{factor, at, Reduced, field, base, to_words, from_words, Holds}
 use Rattle.field.specs.Inner.{unit}

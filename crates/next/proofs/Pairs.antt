@@ -3,7 +3,7 @@ use mathlib.Core.Path.{◌≡◌}
 use Prim.Native.Nat.{ℕ, ◌-◌, ◌≤◌, ◌<◌}
 use native.Mathlib.Omega.{arith}
 use mathlib.Core.List.{List, [], ◌∷◌, ◌++◌}
-use Rattle.algebra.specs.Ring.{Ops, minus}
+use Rattle.algebra.specs.Ring.{minus}
 use Rattle.algebra.proofs.Reading.{reading, ring}
 use Rattle.multilinear.specs.Equality.{agreement}
 use Rattle.multilinear.specs.Successors.{NextParts, eval_next, done_step, carry_step}

@@ -1,5 +1,4 @@
 -- What the inner functions take. No operation that users call cites it. Assumes nothing.
-use Rattle.algebra.specs.Ring.{Ops}
 use Rattle.field.specs.Field.{field, from_words, Reduced, Holds}
 use Rattle.field.specs.declared.Element.{Element}
 

@@ -9,11 +9,9 @@ use native.Mathlib.Omega.{arith}
 use mathlib.Core.List.{List}
 use lib.ListN.{length, get_or}
 use borrow.Author.Tests.{le-leb, lt-leb}
-use Rattle.algebra.specs.Ring.{Ops}
 use Rattle.algebra.specs.Words.{unreduced}
 use Rattle.multilinear.specs.declared.Side.TheVariants.{Prefix, Suffix}
 use Rattle.multilinear.specs.Folds.{word_of}
-use Rattle.multilinear.specs.Laws.{TailLaws}
 use Rattle.multilinear.proofs.Folds.{fold_ext, fold_none}
 use Rattle.multilinear.proofs.Tails.{tail_laws}
 use Rattle.field.specs.Field.{p, Ext, field, base, from_words}

@@ -6,7 +6,6 @@ use native.Mathlib.Omega.{arith}
 use mathlib.Core.List.{List}
 use lib.ListN.{get_or}
 use lib.Pow.{pow_pos, pow_mono}
-use Rattle.algebra.specs.Ring.{Ops}
 use Rattle.multilinear.specs.declared.Side.TheVariants.{Prefix}
 use Rattle.field.specs.Field.{Ext, field, base, from_words, Holds}
 use Rattle.field.specs.declared.Element.{Element}

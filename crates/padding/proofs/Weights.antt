@@ -3,12 +3,11 @@ use mathlib.Core.Path.{◌≡◌, sym, ap, subst, ◌∙◌}
 use Prim.Native.Nat.{ℕ, ◌-◌, ◌*◌, ◌^◌, ◌≤◌, ◌<◌}
 use native.Mathlib.Omega.{arith}
 use lib.ListN.{length}
-use Rattle.algebra.specs.Ring.{Ops, minus}
+use Rattle.algebra.specs.Ring.{minus}
 use Rattle.algebra.proofs.Ring.{mul_zero}
 use Rattle.multilinear.specs.declared.Weight.TheVariants.{Plain, Shifted, Next}
 use Rattle.multilinear.specs.Equality.{eq_at}
 use Rattle.multilinear.specs.Tails.{tail_at}
-use Rattle.multilinear.specs.Laws.{TailLaws}
 use Rattle.multilinear.proofs.Tails.{tail_laws}
 use Rattle.field.specs.Field.{field, from_words, Holds}
 use Rattle.field.specs.declared.Element.{Element}

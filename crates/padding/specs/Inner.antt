@@ -1,6 +1,5 @@
 -- What the inner functions give. No operation that users call cites it. Assumes nothing.
 use Rattle.std.specs.Prelude.{◌≡◌, false, ℕ, ◌*◌, ◌≤◌, List, length}
-use Rattle.algebra.specs.Ring.{Ops}
 use Rattle.algebra.specs.Words.{unreduced}
 use Rattle.multilinear.specs.Tails.{tail_at}
 use Rattle.field.specs.Field.{p, Ext, field, from_words, Reduced}

@@ -6,7 +6,6 @@ use mathlib.Core.List.{List}
 use lib.ListN.{length, take, drop, take-append-drop}
 use lib.Seq.{length-take-le}
 use lib.Pow.{pow-add, pow_pos, pow_mono}
-use Rattle.algebra.specs.Ring.{Ops}
 use Rattle.algebra.proofs.Words.{unreduced_take}
 use Rattle.multilinear.specs.declared.Side.{Side}
 use Rattle.multilinear.specs.Folds.{fold_at}

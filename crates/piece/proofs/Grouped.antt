@@ -4,7 +4,6 @@ use Prim.Native.Nat.{ℕ, ◌+◌, ◌*◌, ◌^◌}
 use native.Mathlib.Omega.{arith}
 use mathlib.Core.List.{List}
 use lib.ListN.{length, get_or}
-use Rattle.algebra.specs.Ring.{Ops, CommRing}
 use Rattle.algebra.specs.Sum.{sum_to}
 use Rattle.multilinear.specs.declared.Side.TheVariants.{Suffix}
 use Rattle.multilinear.specs.Inner.{skip_of, moved_at}

@@ -1,6 +1,5 @@
 -- What the inner functions take and give. No operation that users call cites it. Assumes nothing.
 use Rattle.std.specs.Prelude.{◌≡◌, ℕ, ◌+◌, ◌-◌, ◌*◌, ◌/◌, ◌^◌, ◌≤◌, ◌<◌, min, List, length, take}
-use Rattle.algebra.specs.Ring.{Ops}
 use Rattle.multilinear.specs.declared.Side.{Side}
 use Rattle.multilinear.specs.declared.Side.TheVariants.{Prefix, Suffix}
 use Rattle.multilinear.specs.Equality.{eq_at}

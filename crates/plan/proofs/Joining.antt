@@ -1,12 +1,11 @@
 -- A piece joined to the words that a table has before it: word by word, place by place, and as a whole. Assumes nothing.
-use mathlib.Core.Path.{◌≡◌, sym, ap, ap₂, ◌∙◌}
+use mathlib.Core.Path.{◌≡◌, sym, ap, ◌∙◌}
 use Prim.Native.Nat.{ℕ, ◌+◌, ◌-◌, ◌*◌, ◌≤◌, ◌<◌}
 use native.Mathlib.Decide.{dec_lt}
 use native.Mathlib.Omega.{arith}
 use mathlib.Core.List.{List, [], ◌++◌}
 use lib.ListN.{length, get_or, replicate, length-replicate, get_or-append, get_or-eq_default}
 use lib.Seq.{get_or-append-add}
-use Rattle.algebra.specs.Ring.{Ops, CommRing}
 use Rattle.algebra.specs.Words.{unreduced}
 use Rattle.algebra.proofs.Ring.{zero_add}
 use Rattle.algebra.proofs.Words.{unreduced_zeros}
@@ -17,7 +16,7 @@ use Rattle.multilinear.proofs.Folds.{fold_ext, fold_add, fold_none}
 use Rattle.field.specs.Field.{p, p_pos, Ext, field, base}
 use Rattle.field.specs.declared.Element.{Element}
 use Rattle.field.proofs.Laws.{field_ring, base_zero}
-use Rattle.table.specs.Table.{table_words, elements, placed}
+use Rattle.table.specs.Table.{elements, placed}
 use Rattle.table.specs.Refusals.{most}
 use Rattle.table.proofs.Laws.{table_ext, table_at}
 use Rattle.table.proofs.Parts.{table_zeros, elements_front}

@@ -4,7 +4,6 @@ use Prim.Native.Nat.{ℕ, ◌+◌, ◌-◌, ◌*◌, ◌^◌, ◌≤◌, ◌<◌
 use native.Mathlib.Nat.{add_assoc, add-mul, suc-mul, mul_comm, mul-le-mul_right}
 use native.Mathlib.Omega.{arith}
 use lib.Pow.{pow-add, high, low}
-use Rattle.algebra.specs.Ring.{Ops}
 use Rattle.algebra.proofs.Sums.{sum_ext}
 use Rattle.multilinear.specs.declared.Side.{Side}
 use Rattle.multilinear.specs.declared.Side.TheVariants.{Prefix, Suffix}

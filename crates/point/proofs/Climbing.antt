@@ -6,7 +6,6 @@ use native.Mathlib.Omega.{arith}
 use mathlib.Core.List.{List, [], ◌∷◌}
 use lib.ListN.{length}
 use lib.Pow.{shr-shr}
-use Rattle.algebra.specs.Ring.{Ops}
 use Rattle.field.specs.Field.{Ext, field, from_words, Holds}
 use Rattle.field.specs.declared.Element.{Element}
 use Rattle.field.proofs.Laws.{read_as}

@@ -8,7 +8,7 @@ use native.Mathlib.Omega.{arith}
 use mathlib.Core.List.{List, [], ◌∷◌, ◌++◌, append-nil, reverse, reverse-append}
 use lib.ListN.{length, drop, drop_of_length-le}
 use lib.Pow.{pow_mono, pow_pos}
-use Rattle.algebra.specs.Ring.{Ops, CommRing, minus}
+use Rattle.algebra.specs.Ring.{minus}
 use Rattle.field.specs.Field.{Ext, field, to_words, from_words, Reduced}
 use Rattle.field.specs.declared.Element.{Element}
 use Rattle.field.proofs.Laws.{field_ring, read_back, holds, words_again}

@@ -7,7 +7,6 @@ use mathlib.Core.List.{List}
 use lib.Dec.{eqb}
 use lib.ListN.{length}
 use lib.Pow.{pow_pos}
-use Rattle.algebra.specs.Ring.{Ops}
 use Rattle.multilinear.specs.Equality.{eq_at}
 use Rattle.multilinear.specs.Successors.{next_at}
 use Rattle.field.specs.Field.{Ext, field, from_words, Holds}

@@ -1,9 +1,7 @@
 -- The sum against next, from its two parts, with a scale of one. Assumes nothing.
-use mathlib.Core.Path.{◌≡◌}
 use Prim.Native.Nat.{ℕ, ◌-◌}
 use mathlib.Core.List.{List}
 use lib.ListN.{length, get_or}
-use Rattle.algebra.specs.Ring.{Ops}
 use Rattle.multilinear.specs.Equality.{eq_at}
 use Rattle.multilinear.specs.Values.{next_value_at}
 use Rattle.field.specs.Field.{field, base, from_words, Holds}

@@ -7,7 +7,7 @@ use native.Mathlib.Omega.{arith}
 use mathlib.Core.List.{List, ◌∷◌}
 use lib.ListN.{length, get_or, take}
 use lib.Seq.{length-take-le}
-use Rattle.algebra.specs.Ring.{Ops, minus}
+use Rattle.algebra.specs.Ring.{minus}
 use Rattle.algebra.specs.Words.{unreduced}
 use Rattle.algebra.proofs.Words.{unreduced_take}
 use Rattle.multilinear.specs.declared.Side.TheVariants.{Prefix}

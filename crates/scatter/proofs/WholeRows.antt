@@ -1,12 +1,12 @@
 -- Whole rows: two and four by the weights that one and two coordinates make, thirty-two by a table of them. Assumes nothing.
 use mathlib.Core.Path.{◌≡◌, sym, ap, ap₂, ◌∙◌}
 use mathlib.Core.Bool.{false}
-use Prim.Native.Nat.{ℕ, ◌+◌, ◌-◌, ◌*◌, ◌^◌, ◌≤◌, ◌<◌}
+use Prim.Native.Nat.{ℕ, ◌+◌, ◌*◌, ◌^◌, ◌≤◌, ◌<◌}
 use native.Mathlib.Nat.{add-mul, mul-le-mul_right}
 use native.Mathlib.Omega.{arith}
 use mathlib.Core.List.{List, [], ◌∷◌}
 use lib.ListN.{get_or}
-use Rattle.algebra.specs.Ring.{Ops, CommRing, minus}
+use Rattle.algebra.specs.Ring.{minus}
 use Rattle.algebra.specs.Sum.{sum_to}
 use Rattle.algebra.specs.Words.{unreduced}
 use Rattle.algebra.proofs.Ring.{zero_add}

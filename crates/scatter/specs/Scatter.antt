@@ -1,6 +1,5 @@
 -- What the functions take and give. No operation that users call cites it. Assumes nothing.
 use Rattle.std.specs.Prelude.{◌≡◌, false, ℕ, ◌+◌, ◌*◌, ◌^◌, ◌≤◌, List, length, get_or}
-use Rattle.algebra.specs.Ring.{Ops}
 use Rattle.algebra.specs.Words.{unreduced}
 use Rattle.multilinear.specs.declared.Side.TheVariants.{Prefix}
 use Rattle.multilinear.specs.declared.Weight.TheVariants.{Plain}

@@ -7,7 +7,7 @@ use mathlib.Core.List.{List}
 use lib.Dec.{eqb}
 use lib.ListN.{length, get_or}
 use borrow.Author.Tests.{eq-eqb, ne_eqb}
-use Rattle.algebra.specs.Ring.{Ops, CommRing}
+use Rattle.algebra.specs.Ring.{CommRing}
 use Rattle.multilinear.specs.Equality.{eq_at}
 use Rattle.multilinear.specs.Values.{value_at, next_value_at}
 use Rattle.multilinear.specs.Folds.{scaled_value_at, scaled_next_value_at}

@@ -4,7 +4,6 @@ use Prim.Native.Nat.{ℕ, ◌-◌, ◌^◌}
 use native.Mathlib.Omega.{arith}
 use mathlib.Core.List.{List, [], ◌∷◌}
 use lib.Pow.{pow_pos}
-use Rattle.algebra.specs.Ring.{Ops}
 use Rattle.algebra.proofs.Reading.{reading, ring}
 use Rattle.multilinear.specs.Equality.{eq_at}
 use Rattle.multilinear.specs.Successors.{last_row}

@@ -1,7 +1,6 @@
 -- The starred cases of document 01, "Points and tables worked through": what the definitions give, and what the paper says.
 -- z = (2, 3); f = 1, 4, 9, 16; out and work hold 7 in each word before a call. Assumes nothing.
 use Rattle.std.specs.Prelude.{◌≡◌, ℕ, ◌-◌, List, [], ◌∷◌, ◌++◌, replicate}
-use Rattle.algebra.specs.Ring.{Ops}
 use Rattle.algebra.specs.Words.{words_of}
 use Rattle.multilinear.specs.declared.Side.{Side}
 use Rattle.multilinear.specs.declared.Side.TheVariants.{Prefix, Suffix}

@@ -9,7 +9,6 @@ use native.Mathlib.Omega.{arith}
 use mathlib.Core.List.{List}
 use lib.ListN.{length, replicate, length-replicate}
 use borrow.Author.Count.{below_more}
-use Rattle.algebra.specs.Ring.{Ops, CommRing}
 use Rattle.algebra.specs.Words.{unreduced}
 use Rattle.algebra.proofs.Ring.{zero_add}
 use Rattle.field.specs.Field.{p, Ext, field, to_words, from_words, Reduced, Holds}

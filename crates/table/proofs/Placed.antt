@@ -8,7 +8,6 @@ use mathlib.Core.List.{List}
 use lib.ListN.{length, get_or, take, get_or-eq_default}
 use lib.Seq.{get_or-take, length-take-le}
 use borrow.Author.Tests.{lt-ltb, le-ltb}
-use Rattle.algebra.specs.Ring.{Ops}
 use Rattle.algebra.proofs.Ring.{mul_zero}
 use Rattle.field.specs.Field.{Ext, field, base}
 use Rattle.field.proofs.Laws.{field_ring, base_zero}

@@ -6,7 +6,6 @@ use mathlib.Core.List.{List, ◌++◌}
 use lib.ListN.{length, take, drop, replicate, length-append, length-replicate}
 use lib.Pow.{pow_mono}
 use lib.Seq.{length-take-le}
-use Rattle.algebra.specs.Ring.{Ops}
 use Rattle.algebra.proofs.Words.{unreduced_append, unreduced_drop, unreduced_zeros}
 use Rattle.multilinear.specs.Equality.{eq_at}
 use Rattle.field.specs.Field.{p, p_pos, Ext, field, from_words, Reduced}

@@ -6,7 +6,6 @@ use native.Mathlib.Omega.{arith}
 use mathlib.Core.List.{List}
 use lib.ListN.{length, take}
 use lib.Pow.{pow_mono}
-use Rattle.algebra.specs.Ring.{Ops}
 use Rattle.algebra.specs.Sum.{sum_to}
 use Rattle.multilinear.specs.Beside.{line}
 use Rattle.field.specs.Field.{field, from_words, Holds}

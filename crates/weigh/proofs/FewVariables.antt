@@ -5,7 +5,7 @@ use native.Mathlib.Omega.{arith}
 use mathlib.Core.List.{List}
 use lib.ListN.{length, get_or, take}
 use lib.Pow.{pow_pos}
-use Rattle.algebra.specs.Ring.{Ops, minus}
+use Rattle.algebra.specs.Ring.{minus}
 use Rattle.multilinear.specs.Values.{value_at}
 use Rattle.multilinear.specs.Beside.{line}
 use Rattle.field.specs.Field.{factor, Ext, field, base, from_words, Holds}

@@ -5,7 +5,6 @@ use native.Mathlib.Omega.{arith}
 use mathlib.Core.List.{List}
 use lib.ListN.{length, get_or, get_or-eq_default}
 use lib.Pow.{pow_pos}
-use Rattle.algebra.specs.Ring.{Ops}
 use Rattle.algebra.proofs.Words.{below}
 use Rattle.multilinear.specs.Equality.{eq_at}
 use Rattle.multilinear.specs.Successors.{last_row}

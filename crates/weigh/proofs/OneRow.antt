@@ -7,7 +7,6 @@ use native.Mathlib.Omega.{arith}
 use mathlib.Core.List.{List}
 use lib.ListN.{length}
 use lib.Pow.{pow-add}
-use Rattle.algebra.specs.Ring.{Ops}
 use Rattle.algebra.proofs.Sums.{sum_ext}
 use Rattle.multilinear.specs.Equality.{eq_at}
 use Rattle.multilinear.specs.Values.{value_at}

@@ -6,7 +6,6 @@ use native.Mathlib.Nat.{add-mul, mul-le-mul_right}
 use native.Mathlib.Omega.{arith}
 use mathlib.Core.List.{List}
 use lib.Pow.{pow-add}
-use Rattle.algebra.specs.Ring.{Ops}
 use Rattle.algebra.specs.Sum.{sum_to}
 use Rattle.algebra.proofs.Sums.{sum_ext}
 use Rattle.multilinear.specs.Values.{value_at}

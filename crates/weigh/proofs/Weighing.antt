@@ -4,8 +4,6 @@ use Prim.Native.Nat.{ℕ, ◌+◌, ◌-◌, ◌≤◌}
 use native.Mathlib.Nat.{zero-add}
 use native.Mathlib.Omega.{arith}
 use mathlib.Core.List.{List, ◌++◌}
-use lib.ListN.{length}
-use Rattle.algebra.specs.Ring.{Ops}
 use Rattle.algebra.proofs.Ring.{one_mul}
 use Rattle.multilinear.specs.Values.{value_at}
 use Rattle.multilinear.proofs.Values.{value_ext}

@@ -7,7 +7,6 @@ use mathlib.Core.List.{List}
 use lib.ListN.{length, get_or, take, drop, length-drop}
 use lib.Pow.{pow_mono}
 use lib.Seq.{length-take-le}
-use Rattle.algebra.specs.Ring.{Ops}
 use Rattle.algebra.specs.Sum.{sum_to}
 use Rattle.algebra.proofs.Sums.{sum_ext, sum_none, sum_middle}
 use Rattle.algebra.proofs.Words.{unreduced_take, unreduced_drop}

@@ -1,6 +1,5 @@
 -- What the sums against eq take and give. No operation that users call cites it. Assumes nothing.
 use Rattle.std.specs.Prelude.{◌≡◌, false, ℕ, suc, ◌+◌, ◌*◌, ◌%◌, ◌^◌, ◌≤◌, ◌<◌, List, length, get_or}
-use Rattle.algebra.specs.Ring.{Ops}
 use Rattle.algebra.specs.Sum.{sum_to}
 use Rattle.algebra.specs.Words.{unreduced}
 use Rattle.multilinear.specs.Equality.{eq_at}

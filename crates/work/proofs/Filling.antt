@@ -1,12 +1,11 @@
 -- The two parts of a work buffer that `fill` lends on, and what they become. Assumes nothing.
 use mathlib.Core.Path.{◌≡◌, ap, ◌∙◌}
-use Prim.Native.Nat.{ℕ, ◌+◌, ◌-◌, ◌*◌, ◌^◌, ◌≤◌}
+use Prim.Native.Nat.{ℕ, ◌-◌, ◌*◌, ◌^◌, ◌≤◌}
 use native.Mathlib.Omega.{arith}
 use mathlib.Core.List.{List, ◌++◌}
 use lib.ListN.{length, take, drop, length-append, length-drop}
 use lib.Seq.{length-take-le}
 use borrow.Rule.Slice.PartMut.{put_mid}
-use Rattle.algebra.specs.Ring.{Ops}
 use Rattle.algebra.proofs.Ring.{one_mul}
 use Rattle.multilinear.specs.Equality.{eq_at}
 use Rattle.field.specs.Field.{field, from_words, Reduced, Holds}

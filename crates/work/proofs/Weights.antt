@@ -1,14 +1,13 @@
 -- The two tables of a work buffer, and the weights that they make. Assumes nothing.
 use mathlib.Core.Path.{◌≡◌, sym, ap, ap₂, ◌∙◌}
 use mathlib.Core.Bool.{false}
-use Prim.Native.Nat.{ℕ, ◌+◌, ◌-◌, ◌*◌, ◌/◌, ◌%◌, ◌^◌, ◌≤◌, ◌<◌}
+use Prim.Native.Nat.{ℕ, ◌+◌, ◌*◌, ◌/◌, ◌%◌, ◌^◌, ◌≤◌, ◌<◌}
 use native.Mathlib.Nat.{zero-add, mod-lt, mul-le-mul_right, suc-mul}
 use native.Mathlib.Omega.{arith}
 use mathlib.Core.List.{List, ◌++◌}
 use lib.ListN.{length, length-append}
 use lib.Pow.{pow-add, pow_pos, shr_lt, high, low}
 use lib.Seq.{drop_at}
-use Rattle.algebra.specs.Ring.{Ops, CommRing}
 use Rattle.algebra.specs.Words.{unreduced}
 use Rattle.algebra.proofs.Words.{unreduced_append}
 use Rattle.multilinear.specs.Equality.{eq_at}

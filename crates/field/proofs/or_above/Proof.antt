@@ -1,5 +1,5 @@
 -- `field::or_above` meets its contract. Assumes nothing.
-use Rattle.std.proofs.Common.{◌≡◌, refl, rules}
+use Rattle.std.proofs.Common.{refl, rules}
 use Rattle.field.proofs.or_above.Statement.{statement}
 use Rattle.field.proofs.or_above.Tie as tie
 

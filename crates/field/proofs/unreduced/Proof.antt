@@ -1,5 +1,5 @@
 -- `field::unreduced` meets its contract: a word was found, or what is left of the words decides. Assumes nothing.
-use Rattle.std.proofs.Common.{◌≡◌, ◌-◌, ◌≤◌, Bool, true, false, ◌||◌, length, drop, sym, refl, ◌∙◌, arith, rules}
+use Rattle.std.proofs.Common.{◌≡◌, ◌-◌, ◌≤◌, ◌||◌, length, drop, sym, refl, ◌∙◌, arith, rules}
 use Rattle.algebra.specs.Words.{unreduced}
 use Rattle.algebra.proofs.Words.{onward, ended, or_false}
 use Rattle.field.specs.Field.{p}

@@ -1,7 +1,6 @@
 -- `fixing::add_part` meets its contract: both entries that a turn reads are at or past the one that it writes. Assumes nothing.
 use Prim.Native.Nat.{◌-◌}
 use borrow.Author.Rules.{rules}
-use Rattle.algebra.specs.Ring.{Ops}
 use Rattle.field.specs.Field.{field}
 use Rattle.fixing.proofs.Making.{Pairing, start_pairs, read_pair, turn_pair, finish_pairs}
 use Rattle.fixing.proofs.add_part.Statement.{statement}

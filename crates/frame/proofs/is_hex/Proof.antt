@@ -2,7 +2,6 @@
 use mathlib.Core.Path.{sym, ◌∙◌}
 use Prim.Native.Nat.{◌-◌}
 use borrow.Author.Rules.{rules}
-use borrow.Author.Tests.{not-true, not-false}
 use Rattle.frame.proofs.Scanning.{Scanned, odd, start, turn, stop, end}
 use Rattle.frame.proofs.is_hex.Statement.{statement}
 use Rattle.frame.proofs.is_hex.Tie as tie

@@ -4,7 +4,6 @@ use Prim.Native.Nat.{◌+◌, ◌-◌, ◌*◌, ◌≤◌, ◌<◌}
 use native.Mathlib.Omega.{arith}
 use borrow.Author.Rules.{rules}
 use lib.ListN.{length, get_or}
-use Rattle.algebra.specs.Ring.{Ops}
 use Rattle.algebra.proofs.Words.{below}
 use Rattle.field.specs.Field.{p, p_pos, field, base, from_words}
 use Rattle.table.specs.Gained.{Gained}

@@ -1,5 +1,5 @@
 -- `lowering::raise_word` meets its contract: 2⁶⁴ divided by 2³² is 2³². Assumes nothing.
-use Rattle.std.proofs.Common.{◌≡◌, ◌*◌, ◌%◌, ◌≤◌, ap, ◌∙◌, arith, rules}
+use Rattle.std.proofs.Common.{◌*◌, ◌%◌, ap, ◌∙◌, arith, rules}
 use Rattle.field.specs.Field.{p}
 use Rattle.lowering.specs.Lowering.{unit_inverse}
 use Rattle.lowering.proofs.Laws.{square_lowered}

@@ -1,5 +1,5 @@
 -- `lowering::word_times_factor` meets its contract: X⁴ times 2³², divided by it, is X⁴. Assumes nothing.
-use Rattle.std.proofs.Common.{◌≡◌, ◌*◌, ◌%◌, ◌≤◌, ap, ◌∙◌, arith, rules}
+use Rattle.std.proofs.Common.{◌*◌, ◌%◌, ap, ◌∙◌, arith, rules}
 use Rattle.field.specs.Field.{p}
 use Rattle.lowering.specs.Lowering.{unit_inverse}
 use Rattle.lowering.proofs.Laws.{factor_lowered}

@@ -5,13 +5,11 @@ use native.Mathlib.Nat.{mul_comm, mul-le-mul_right}
 use native.Mathlib.Omega.{arith}
 use mathlib.Core.List.{List}
 use lib.ListN.{length}
-use lib.Pow.{pow_pos}
-use Rattle.algebra.specs.Ring.{Ops}
 use Rattle.algebra.proofs.Ring.{zero_mul}
 use Rattle.multilinear.specs.declared.Side.{Side}
 use Rattle.multilinear.specs.declared.Side.TheVariants.{Prefix, Suffix}
 use Rattle.multilinear.specs.declared.Weight.{Weight}
-use Rattle.multilinear.specs.declared.Weight.TheVariants.{Plain, Shifted, Next}
+use Rattle.multilinear.specs.declared.Weight.TheVariants.{Next}
 use Rattle.multilinear.specs.Equality.{eq_at}
 use Rattle.multilinear.specs.Folds.{word_of}
 use Rattle.multilinear.specs.Inner.{own_row, own_weight, own_at}

@@ -1,18 +1,17 @@
 -- The places whose word of the own row is in the piece, and what they gain. Assumes nothing.
 use mathlib.Core.Path.{◌≡◌, refl, sym, ap, ◌∙◌}
-use Prim.Native.Nat.{ℕ, suc, ◌+◌, ◌-◌, ◌*◌, ◌/◌, ◌%◌, ◌≤◌, ◌<◌, min}
+use Prim.Native.Nat.{ℕ, suc, ◌+◌, ◌-◌, ◌*◌, ◌/◌, ◌%◌, ◌≤◌, ◌<◌}
 use native.Mathlib.Nat.{mul-le-mul_right, div-add-mod', mod-lt}
 use native.Mathlib.Omega.{arith}
 use mathlib.Core.List.{List}
 use lib.ListN.{length, get_or}
-use Rattle.algebra.specs.Ring.{Ops}
 use Rattle.multilinear.specs.Equality.{eq_at}
 use Rattle.field.specs.Field.{Ext, field, base, from_words, Holds}
 use Rattle.field.specs.declared.Element.{Element}
 use Rattle.field.proofs.Laws.{read_as}
 use Rattle.table.specs.Table.{element_at, elements, put_at, placed}
 use Rattle.table.specs.Gained.{Gained}
-use Rattle.table.proofs.Gaining.{none, turn, gained_as, widened_to}
+use Rattle.table.proofs.Gaining.{none, turn, widened_to}
 use Rattle.table.proofs.Placed.{absent, placed_before, placed_word, placed_after}
 use Rattle.moved.specs.declared.Terms.{Terms}
 use Rattle.moved.specs.Moved.{Adds}

@@ -2,7 +2,6 @@
 use mathlib.Core.Path.{◌≡◌, sym, ◌∙◌}
 use mathlib.Core.Bool.{true}
 use borrow.Author.Rules.{rules}
-use borrow.Author.Tests.{not-true, not-false}
 use Rattle.runs.specs.Reader.{is_done}
 use Rattle.program.proofs.Texts.{places_fit, not_done, done_fits, done_put}
 use Rattle.program.proofs.put_out.Statement.{statement}

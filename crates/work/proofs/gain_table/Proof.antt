@@ -4,7 +4,6 @@ use Prim.Native.Nat.{◌+◌, ◌-◌, ◌*◌, ◌≤◌, ◌<◌}
 use native.Mathlib.Omega.{arith}
 use borrow.Author.Rules.{rules}
 use lib.ListN.{length}
-use Rattle.algebra.specs.Ring.{Ops, CommRing}
 use Rattle.field.specs.Field.{field, from_words}
 use Rattle.field.proofs.Laws.{field_ring, read_as}
 use Rattle.table.specs.Table.{element_at}

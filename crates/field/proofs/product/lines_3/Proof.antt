@@ -1,5 +1,5 @@
 -- `field::product::lines_3` meets its contract: each line holds, and the sums are those of the four. Assumes nothing.
-use Rattle.std.proofs.Common.{◌≡◌, ◌+◌, ◌*◌, Bool, false, List, [], ◌∷◌, refl, arith, rules}
+use Rattle.std.proofs.Common.{◌≡◌, Bool, false, List, [], ◌∷◌, refl, arith, rules}
 use Rattle.algebra.specs.Quartic.{quartic, constant}
 use Rattle.algebra.specs.Lines.{Line, line, lines, gather, power}
 use Rattle.field.specs.declared.Element.{Element}

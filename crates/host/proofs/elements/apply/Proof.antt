@@ -1,7 +1,6 @@
 -- `host::elements::apply` meets its contract, by the tests of both operands. Assumes nothing.
 use mathlib.Core.Path.{sym, ◌∙◌}
 use borrow.Author.Rules.{rules}
-use Rattle.field.specs.Field.{Reduced}
 use Rattle.host.proofs.Applying.{refused, done}
 use Rattle.host.proofs.elements.apply.Statement.{statement}
 use Rattle.host.proofs.elements.apply.Tie as tie

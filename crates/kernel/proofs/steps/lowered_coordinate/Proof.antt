@@ -1,7 +1,4 @@
 -- `kernel::steps::lowered_coordinate` meets its contract. Assumes nothing.
-use Prim.Native.Nat.{◌+◌}
-use mathlib.Core.Path.{◌≡◌}
-use native.Mathlib.Omega.{arith}
 use borrow.Author.Rules.{rules}
 use Rattle.kernel.proofs.steps.lowered_coordinate.Statement.{statement}
 use Rattle.kernel.proofs.steps.lowered_coordinate.Tie as tie

@@ -1,6 +1,6 @@
 -- `kernel::steps::lowered_sum` meets its contract. Assumes nothing.
-use mathlib.Core.Path.{◌≡◌, ap}
-use Prim.Native.Nat.{◌+◌, ◌*◌, ◌%◌}
+use mathlib.Core.Path.{ap}
+use Prim.Native.Nat.{◌*◌, ◌%◌}
 use native.Mathlib.Omega.{arith}
 use borrow.Author.Rules.{rules}
 use Rattle.field.specs.Field.{p}

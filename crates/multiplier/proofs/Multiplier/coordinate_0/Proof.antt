@@ -1,6 +1,4 @@
 -- `multiplier::Multiplier::coordinate_0` meets its contract: the row's sum, divided by 2³². Assumes nothing.
-use mathlib.Core.Path.{◌∙◌}
-use borrow.Author.Rules.{rules}
 use Rattle.multiplier.proofs.Rows.{word_0}
 use Rattle.multiplier.proofs.Multiplier.coordinate_0.Statement.{statement}
 use Rattle.multiplier.proofs.Multiplier.coordinate_0.Tie as tie

@@ -1,6 +1,4 @@
 -- `multiplier::Multiplier::coordinate_1` meets its contract: the row's sum, divided by 2³². Assumes nothing.
-use mathlib.Core.Path.{◌∙◌}
-use borrow.Author.Rules.{rules}
 use Rattle.multiplier.proofs.Rows.{word_1}
 use Rattle.multiplier.proofs.Multiplier.coordinate_1.Statement.{statement}
 use Rattle.multiplier.proofs.Multiplier.coordinate_1.Tie as tie

@@ -1,6 +1,4 @@
 -- `multiplier::Multiplier::coordinate_3` meets its contract: the row's sum, divided by 2³². Assumes nothing.
-use mathlib.Core.Path.{◌∙◌}
-use borrow.Author.Rules.{rules}
 use Rattle.multiplier.proofs.Rows.{word_3}
 use Rattle.multiplier.proofs.Multiplier.coordinate_3.Statement.{statement}
 use Rattle.multiplier.proofs.Multiplier.coordinate_3.Tie as tie

@@ -1,10 +1,8 @@
 -- `piece::own::stand_of` meets its contract. Assumes nothing.
-use mathlib.Core.Path.{◌≡◌, sym, ap}
 use Prim.Native.Nat.{◌*◌, ◌≤◌}
 use native.Mathlib.Nat.{mul-le-mul_right}
 use native.Mathlib.Omega.{arith}
 use borrow.Author.Rules.{rules}
-use Rattle.piece.specs.Inner.{apart}
 use Rattle.piece.proofs.own.stand_of.Statement.{statement}
 use Rattle.piece.proofs.own.stand_of.Tie as tie
 

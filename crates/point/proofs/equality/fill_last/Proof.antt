@@ -1,11 +1,6 @@
 -- `point::equality::fill_last` meets its contract. Assumes nothing.
-use mathlib.Core.Path.{◌≡◌, ap, ◌∙◌}
 use native.Mathlib.Omega.{arith}
 use borrow.Author.Rules.{rules}
-use Rattle.algebra.specs.Ring.{Ops}
-use Rattle.multilinear.specs.Equality.{eq_at}
-use Rattle.field.specs.Field.{field, from_words}
-use Rattle.table.specs.Table.{table_words}
 use Rattle.table.proofs.Parts.{rest_length, rest_below, rest_elements}
 use Rattle.point.proofs.equality.fill_last.Statement.{statement}
 use Rattle.point.proofs.equality.fill_last.Tie as tie

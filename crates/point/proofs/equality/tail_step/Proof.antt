@@ -2,7 +2,7 @@
 use mathlib.Core.Path.{◌≡◌, refl}
 use Prim.Native.Nat.{ℕ, zero, suc}
 use borrow.Author.Rules.{rules}
-use Rattle.algebra.specs.Ring.{Ops, minus}
+use Rattle.algebra.specs.Ring.{minus}
 use Rattle.field.specs.Field.{field, from_words, Holds}
 use Rattle.field.specs.declared.Element.{Element}
 use Rattle.field.proofs.Laws.{read_as}

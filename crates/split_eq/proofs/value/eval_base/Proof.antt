@@ -1,5 +1,5 @@
 -- `split_eq::value::eval_base` meets its contract: by the tests' answer. Assumes nothing.
-use mathlib.Core.Path.{refl, ap}
+use mathlib.Core.Path.{ap}
 use native.Mathlib.Omega.{arith}
 use borrow.Author.Rules.{rules}
 use Rattle.table.specs.Table.{entries}
