@@ -2,8 +2,8 @@
 -- `told : t ≡ Accepted`, or `t ≡ Refused r`, by the case that it stands in, and `tested : answer t ≡ verdict ts` from the test function.
 --
 --   what the code behind the tests asks for   let h = accepted _ tt told tested in search says
---   the contract of a call that goes on       rw (← answer-as told tested) (refl, left)
---   the contract of a call that is refused    rw (← answer-as told tested, kept) (refl, refl)
+--   the contract of a call that goes on       rw (← answer_as told tested) (refl, left)
+--   the contract of a call that is refused    rw (← answer_as told tested, kept) (refl, refl)
 --
 -- `search` reads the facts `test ≡ false` off h, and makes whole records of them; a crate adds the laws of its own operands, as
 -- `search (says, coordinates)`. `(refl, left)` is the answer, and an entry for each thing that the call leaves: `left` shows what it
