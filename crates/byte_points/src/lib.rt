@@ -4,8 +4,8 @@
 ghost use Rattle.std.specs.Prelude.{◌≡◌, ◌++◌, ◌/◌, length, take};
 ghost use Rattle.octets.specs.Octets.{words, octets};
 ghost use Rattle.table.specs.Refusals.{answer, value_words, outcome, verdict};
-ghost use Rattle.point.specs.Point.{vertex_answer as vertexOfWords};
-ghost use Rattle.next.specs.Next.{next_outcome, eval_next_answer as nextOfWords};
+ghost use Rattle.point.specs.Point.{vertex_answer as vertex_of_words};
+ghost use Rattle.next.specs.Next.{next_outcome, eval_next_answer as next_of_words};
 ghost use Rattle.byte_points.specs.BytePoints.{vertex_sizes, vertex_answer, vertex_out, next_sizes, next_answer, next_out};
 ghost use Rattle.byte_points.specs.Few.{Few};
 
@@ -85,7 +85,7 @@ fn test_next(point: &[u8], other: &[u8], out: &[u8]) -> Verdict
 
 fn at_vertex(point: &[u8], vertex: usize) -> Evaluation
     requires { Few point.now }
-    ensures { outcome result ≡ vertexOfWords (words point.now) vertex }
+    ensures { outcome result ≡ vertex_of_words (words point.now) vertex }
 {
     let n = point.len() / 4;
     let zs = coordinates(point);
@@ -94,7 +94,7 @@ fn at_vertex(point: &[u8], vertex: usize) -> Evaluation
 
 fn next_of(point: &[u8], other: &[u8]) -> Next
     requires { Few point.now × Few other.now }
-    ensures { next_outcome result ≡ nextOfWords (words point.now) (words other.now) }
+    ensures { next_outcome result ≡ next_of_words (words point.now) (words other.now) }
 {
     let n = point.len() / 4;
     let m = other.len() / 4;

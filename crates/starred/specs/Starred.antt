@@ -70,7 +70,7 @@ accepted ws = record { number = 0; words = ws }
 -- each case with its operation: the out or the answer that the operation's contract states
 abbrev pub starred : List Case
 starred =
-    -- field::Element::mul: X-as-X³ = 11
+    -- field::Element::mul: X·X³ = 11
     (product (element 0 1 0 0) (element 0 0 0 1) is number 11)
     -- field::Element::mul: 2X³·3X³ = 66X²
     ∷ (product (element 0 0 0 2) (element 0 0 0 3) is (0 ∷ 0 ∷ 66 ∷ 0 ∷ []))

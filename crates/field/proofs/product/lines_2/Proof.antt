@@ -16,14 +16,6 @@ three = line 2 0 false 2 ∷ line 1 1 false 2 ∷ line 0 2 false 2 ∷ []
 abbrev four : List (Line Bool)
 four = line 3 3 true 2 ∷ three
 
-once-law : (x y z : Element) → (after x y z four).once ≡ once_at x y 2
-unfolding once_at lines gather
-once-law x y z = omega arith
-
-back-law : (x y z : Element) → (after x y z four).back ≡ back_at x z 2
-unfolding back_at lines gather
-back-law x y z = omega arith
-
 -- the sums after each line
 abbrev At : tie.Start → List (Line Bool) → Sums → Type 0
 At c ls s = Lined c.args.x c.args.y c.args.back ls s
@@ -57,53 +49,33 @@ after-4 c =
     step _ _ _ (line 3 3 true 2) (after-3 c.before.before.before)
     c.before.before.term_3.ensures c.before.term_3-2.ensures c.line-4.ensures
 
-line-requires : tie.Need-line-requires
-unfolding power quartic constant
-line-requires c κs =
-    let begin = c.before.before.before in
-    let pre = begin.requires in
-    asked _ _ _ (by_one 0 2 2 tt)
-    (start begin.args.x begin.args.y begin.args.back c.before.before.none.ensures) (omega arith)
-    c.before.term_0.ensures c.term_2.ensures pre.0 pre.1
-
-line-requires-2 : tie.Need-line-requires-2
-unfolding power quartic constant
-line-requires-2 c κs =
-    let pre = (begin c.before.before).requires in
-    asked _ _ _ (by_one 1 1 2 tt) (after-1 c.before.before) (omega arith) c.before.term_1.ensures c.term_1-2.ensures pre.0 pre.1
-
-line-requires-3 : tie.Need-line-requires-3
-unfolding power quartic constant
-line-requires-3 c κs =
-    let pre = (begin-2 c.before.before).requires in
-    asked _ _ _ (by_one 2 0 2 tt) (after-2 c.before.before) (omega arith) c.before.term_2-2.ensures c.term_0-2.ensures pre.0 pre.1
-
-line-requires-4 : tie.Need-line-requires-4
-unfolding power quartic constant
-line-requires-4 c κs =
-    let pre = (begin-3 c.before.before).requires in
-    asked _ _ _ (by_factor 3 3 2 tt) (after-3 c.before.before) (omega arith) c.before.term_3.ensures c.term_3-2.ensures pre.0 pre.2
-
-returns : tie.Need-returns
-returns c =
-    let args = (begin-3 c.before.before.before).args in
-    finish _ _ _ 2 (after-4 c) refl (once-law args.x args.y args.back) (back-law args.x args.y args.back)
-
 pub lines_2_spec : {M : Type 1} → statement M
+unfolding power quartic constant once_at back_at lines gather
 lines_2_spec =
     tie.close
     (tie.spec
     (search rules)
     (search rules)
     (search rules)
-    line-requires
+    (λ c κs.
+    let begin = c.before.before.before in
+    let pre = begin.requires in
+    asked _ _ _ (by_one 0 2 2 tt)
+    (start begin.args.x begin.args.y begin.args.back c.before.before.none.ensures) (omega arith)
+    c.before.term_0.ensures c.term_2.ensures pre.0 pre.1)
     (search rules)
     (search rules)
-    line-requires-2
+    (λ c κs.
+    let pre = (begin c.before.before).requires in
+    asked _ _ _ (by_one 1 1 2 tt) (after-1 c.before.before) (omega arith) c.before.term_1.ensures c.term_1-2.ensures pre.0 pre.1)
     (search rules)
     (search rules)
-    line-requires-3
+    (λ c κs.
+    let pre = (begin-2 c.before.before).requires in
+    asked _ _ _ (by_one 2 0 2 tt) (after-2 c.before.before) (omega arith) c.before.term_2-2.ensures c.term_0-2.ensures pre.0 pre.1)
     (search rules)
     (search rules)
-    line-requires-4
-    returns)
+    (λ c κs.
+    let pre = (begin-3 c.before.before).requires in
+    asked _ _ _ (by_factor 3 3 2 tt) (after-3 c.before.before) (omega arith) c.before.term_3.ensures c.term_3-2.ensures pre.0 pre.2)
+    (λ c. finish _ _ _ 2 (after-4 c) refl (omega arith) (omega arith)))
