@@ -1,11 +1,10 @@
 -- `field::product::lines_2` meets its contract: each line holds, and the sums are those of the four. Assumes nothing.
-use Rattle.std.proofs.Common.{◌≡◌, Bool, true, false, List, [], ◌∷◌, refl, arith, rules}
+use Rattle.std.proofs.Common.{Bool, true, false, List, [], ◌∷◌, refl, arith, rules}
 use Rattle.algebra.specs.Quartic.{quartic, constant}
 use Rattle.algebra.specs.Lines.{Line, line, lines, gather, power}
-use Rattle.field.specs.declared.Element.{Element}
 use Rattle.field.specs.declared.product.Sums.{Sums}
 use Rattle.field.specs.Product.{once_at, back_at}
-use Rattle.field.proofs.Lining.{by_one, by_factor, after, Lined, start, step, asked, finish}
+use Rattle.field.proofs.Lining.{by_one, by_factor, Lined, start, step, asked, finish}
 use Rattle.field.proofs.product.lines_2.Statement.{statement}
 use Rattle.field.proofs.product.lines_2.Tie as tie
 

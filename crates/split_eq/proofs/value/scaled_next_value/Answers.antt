@@ -39,5 +39,5 @@ weigh-requires c = (c.requires.coordinates.0, later c.requires.coordinates.1)
 
 pub returns : goal.returns
 returns c =
-    next_sum c.requires.coordinates.1 _ _ c.requires.weighed (omega (arith, c.if-n-lt2.false))
+    next_sum c.requires.coordinates.1 _ _ c.requires.weighed (omega arith)
     c.weight.ensures c.mul_base-own.ensures c.weigh.ensures c.add.ensures
