@@ -10,9 +10,9 @@ ghost use Rattle.program.specs.Blocks.{most_text, Going};
 ghost use Rattle.foldframes.specs.Progress.{Kept};
 
 use program::Program;
+use std::fmt;
 use std::io::{Error, ErrorKind, Read, Write};
 use std::process::ExitCode;
-use std::{fmt, thread};
 
 // The program's state, and whether it goes on.
 #[derive(Clone, Copy)]
@@ -157,16 +157,9 @@ fn write(output: &mut impl Write, text: &[u8]) -> Result<(), Failure> {
     Err(Failure::Writing(Error::from(ErrorKind::WriteZero)))
 }
 
-// Whether a call that failed may be made again: it was interrupted, or would have had to wait, and then the processor is given to others.
+// Whether a call that failed may be made again: it was interrupted, or would have had to wait.
 fn is_passing(error: &Error) -> bool {
-    match error.kind() {
-        ErrorKind::Interrupted => true,
-        ErrorKind::WouldBlock => {
-            thread::yield_now();
-            true
-        }
-        _ => false,
-    }
+    matches!(error.kind(), ErrorKind::Interrupted | ErrorKind::WouldBlock)
 }
 
 fn line_room() -> [u8; frame::MOST_LINE]

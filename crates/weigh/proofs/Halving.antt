@@ -30,8 +30,8 @@ module _ (point : List ℕ) (i : ℕ) where
   one_entry f e d = rw (e, value_empty field_ring f) d
 
   -- the values of the halves, of m variables each, on the line at the first coordinate
-  module _ {n m : ℕ} (e : n ≡ suc m) (f low_half_lem high_half_lem : ℕ → Ext) (e0 : (y : ℕ) → y < 2 ^ m → low_half_lem y ≡ f y)
-      (e1 : (y : ℕ) → y < 2 ^ m → high_half_lem y ≡ f (2 ^ m + y)) where
+  module _ {n m : ℕ} (e : n ≡ suc m) (f low_half high_half : ℕ → Ext) (e0 : (y : ℕ) → y < 2 ^ m → low_half y ≡ f y)
+      (e1 : (y : ℕ) → y < 2 ^ m → high_half y ≡ f (2 ^ m + y)) where
     abbrev zs : List Ext
     zs = elements point (i + 1) m
 
@@ -43,7 +43,7 @@ module _ (point : List ℕ) (i : ℕ) where
     below y b = rw (elements_length point (i + 1) m) at b
 
     at_first : value_at field (elements point i n) f
-        ≡ line field (value_at field zs low_half_lem) (value_at field zs high_half_lem) (element_at point i)
+        ≡ line field (value_at field zs low_half) (value_at field zs high_half) (element_at point i)
     at_first =
         ap (λ us. value_at field us f) coordinates
         ∙ value_step field_ring (element_at point i) zs f
@@ -51,6 +51,6 @@ module _ (point : List ℕ) (i : ℕ) where
         (value_ext field_ring zs _ _ (λ y b. sym (e0 y (below y b))))
         (value_ext field_ring zs _ _ (λ y b. ap (λ k. f (2 ^ k + y)) (elements_length point (i + 1) m) ∙ sym (e1 y (below y b))))
 
-    pub joined : {at0 at1 x : Element} → Holds at0 (value_at field zs low_half_lem) → Holds at1 (value_at field zs high_half_lem)
+    pub joined : {at0 at1 x : Element} → Holds at0 (value_at field zs low_half) → Holds at1 (value_at field zs high_half)
         → Holds x (line field (from_words at0) (from_words at1) (element_at point i)) → Holds x (value_at field (elements point i n) f)
     joined d0 d1 d = rw at_first (rw (read_as _ d0, read_as _ d1) at d)

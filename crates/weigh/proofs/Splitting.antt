@@ -57,14 +57,14 @@ module _ (point block : List ℕ) (i high low : ℕ) where
     zs = elements point (i + 1) (high - 1)
 
     -- the values of the halves, on the line at the first coordinate
-    module _ (f low_half_lem high_half_lem : ℕ → Ext) (e0 : (y : ℕ) → y < 2 ^ (high - 1 + low) → low_half_lem y ≡ f y)
-        (e1 : (y : ℕ) → y < 2 ^ (high - 1 + low) → high_half_lem y ≡ f (2 ^ (high - 1 + low) + y)) where
-      pub joined : {at0 at1 r x : Element} → Holds at0 (value_at field zs (against low block low_half_lem))
-          → Holds at1 (value_at field zs (against low block high_half_lem)) → Holds r (element_at point i)
+    module _ (f low_half high_half : ℕ → Ext) (e0 : (y : ℕ) → y < 2 ^ (high - 1 + low) → low_half y ≡ f y)
+        (e1 : (y : ℕ) → y < 2 ^ (high - 1 + low) → high_half y ≡ f (2 ^ (high - 1 + low) + y)) where
+      pub joined : {at0 at1 r x : Element} → Holds at0 (value_at field zs (against low block low_half))
+          → Holds at1 (value_at field zs (against low block high_half)) → Holds r (element_at point i)
           → Holds x (line field (from_words at0) (from_words at1) (from_words r))
           → Holds x (value_at field (elements point i high) (against low block f))
       joined d0 d1 d d-line =
-          halves_joined point i (one_more left) (against low block f) (against low block low_half_lem) (against low block high_half_lem)
+          halves_joined point i (one_more left) (against low block f) (against low block low_half) (against low block high_half)
           (λ h b. sum_ext field_ring (2 ^ low) _ _ (λ l c. ap (field.mul _) (e0 _ (within (high - 1) low h l b c))))
           (λ h b. sum_ext field_ring (2 ^ low) _ _
           (λ l c. ap (field.mul _) (e1 _ (within (high - 1) low h l b c) ∙ ap f (further (high - 1) low h l)))) d0 d1

@@ -18,7 +18,7 @@ use Rattle.dots.proofs.dot.Reads as dot-reads
 use Rattle.table.proofs.read.Reads as read-reads
 use Rattle.table.proofs.rows.Reads as rows-reads
 use Rattle.table.proofs.min.Reads as min-reads
-use Rattle.weigh.proofs.line.Reads as line_reads_lem
+use Rattle.weigh.proofs.line.Reads as line_reads
 use Rattle.weigh.proofs.+halves.{statement}
 use Rattle.weigh.proofs.+halves.Tie.{close}
 
@@ -46,8 +46,8 @@ calls t = (
   halves.Post,
   read-reads.Asked,
   read-reads.Learnt,
-  line_reads_lem.Asked,
-  line_reads_lem.Learnt,
+  line_reads.Asked,
+  line_reads.Learnt,
 )
 
 -- the weights of the words that are there

@@ -15,7 +15,7 @@ use Rattle.weigh.proofs.+halves_ext.Lts-halves_ext as halves-ext-lts
 use Rattle.dots.proofs.dot_ext.Reads as dot-ext-reads
 use Rattle.table.proofs.read.Reads as read-reads
 use Rattle.table.proofs.rows.Reads as rows-reads
-use Rattle.weigh.proofs.line.Reads as line_reads_lem
+use Rattle.weigh.proofs.line.Reads as line_reads
 use Rattle.weigh.proofs.+halves_ext.{statement}
 use Rattle.weigh.proofs.+halves_ext.Tie.{close}
 
@@ -39,8 +39,8 @@ calls t = (
   halves-ext.Post,
   read-reads.Asked,
   read-reads.Learnt,
-  line_reads_lem.Asked,
-  line_reads_lem.Learnt,
+  line_reads.Asked,
+  line_reads.Learnt,
 )
 
 -- the low half is there
