@@ -1,92 +1,29 @@
 -- After an accepted open the session's run is the ledger's: the session is never broken, and every call answers and leaves the ledger's.
 -- Assumes nothing.
 use mathlib.Core.Path.{◌≡◌, refl, sym, ap, ap₂, ◌∙◌}
-use mathlib.Core.Bool.{Bool, true, false, ◌&&◌, cond}
-use Prim.Native.Nat.{ℕ, zero, suc, ◌+◌, ◌-◌, ◌*◌, ◌%◌, ◌≤◌}
+use mathlib.Core.Bool.{false}
+use Prim.Native.Nat.{ℕ, zero, suc, ◌+◌, ◌-◌, ◌*◌, ◌≤◌}
 use native.Mathlib.Omega.{arith}
-use mathlib.Core.List.{List, [], ◌∷◌, ◌++◌}
-use lib.Dec.{ltb, leb}
+use mathlib.Core.List.{List, [], ◌∷◌}
 use lib.ListN.{length, drop, replicate, length-append}
 use lib.Seq.{drop_at}
-use borrow.Author.Tests.{ltb-false, le-ltb, eq-eqb}
-use Rattle.algebra.specs.Words.{unreduced}
-use Rattle.field.specs.Field.{p}
-use Rattle.table.specs.Table.{element_at, entries}
-use Rattle.table.specs.Refusals.{Test, ◌gives◌, verdict, alone, evaluated, most}
-use Rattle.table.proofs.Laws.{table_length}
-use Rattle.table.proofs.Tests.{unreduced_table}
+use borrow.Author.Tests.{ltb-false}
+use Rattle.table.specs.Table.{entries}
+use Rattle.table.specs.Refusals.{alone, most}
 use Rattle.table.proofs.Verdicts.{clear}
 use Rattle.plan.specs.declared.Plan.{Plan}
 use Rattle.plan.specs.Plan.{places, capacity, fold_of}
 use Rattle.plan.specs.Sound.{Sound}
 use Rattle.plan.proofs.Joining as joining
-use Rattle.ledger.specs.Session.{State, state, Args, planned, session_of, open_answer, open_leaves, nonzero, record_tests, out_tests, fed, feed_answer, feed_leaves, close_answer, close_leaves, read_answer}
-use Rattle.ledger.specs.Ledger.{Call, feed, close, read, run, session_step, Ledger, empty, ledger_feed, ledger_close, ledger_read, ledger_answer, entered, ledger_step, ledger_state, told_all, joined}
+use Rattle.ledger.specs.Session.{State, state, Args, planned, session_of, open_answer, open_leaves, nonzero, fed, feed_leaves, close_leaves, read_answer}
+use Rattle.ledger.specs.Ledger.{Call, feed, close, read, run, session_step, Ledger, empty, ledger_read, ledger_answer, entered, ledger_step, ledger_state, told_all, joined}
 use Rattle.ledger.specs.Demand3.{answers, after}
 use Rattle.ledger.proofs.Accepted.{Opened, opened}
 use Rattle.ledger.proofs.Runs.{settle, unchanged, runs}
-
--- no more words than the table has, and not fewer once it is closed
-record Known (plan : Plan) (l : Ledger) : Type 0 where
-  room : length l.words ≤ capacity plan
-  full : l.closed ≡ true → capacity plan ≤ length l.words
-
--- a table of n elements has four words to an element, and n of them
-fitting : (n : ℕ) (ws : List ℕ) → length ws ≡ 4 * n → (entries ws ≡ n) × (length ws % 4 ≡ 0)
-fitting n ws e = (omega arith, omega arith)
+use Rattle.ledger.proofs.SameAnswer.{Known, feed_same, close_same, read_same}
 
 -- a sound plan, unused coordinates 0
 module _ (plan : Plan) (ok : Sound plan) (unused : nonzero (drop (4 * plan.k) plan.coordinates) ≡ false) where
-  -- the record is never 11
-  never_broken : (l : Ledger) → Known plan l → (ts : List Test)
-      → verdict (record_tests (ledger_state plan l).session ++ ts) ≡ verdict ts
-  unfolding verdict
-  never_broken l i ts =
-      rw (
-        le-ltb most plan.n ok.small,
-        le-ltb plan.n plan.k ok.fits,
-        le-ltb (capacity plan) (length l.words) i.room,
-        ok.scale_is.words_below,
-        ok.coordinates_below,
-        unused,
-        shut l.closed i.full,
-      )
-    where
-      shut : (b : Bool) → (b ≡ true → capacity plan ≤ length l.words) → (b && ltb (length l.words) (capacity plan)) ≡ false
-      shut true h = le-ltb _ _ (h refl)
-      shut false h = refl
-
-  -- and its out never 4 or 5
-  out_fits : (l : Ledger) (ts : List Test) → verdict (out_tests (ledger_state plan l) ++ ts) ≡ verdict ts
-  unfolding verdict
-  out_fits l ts =
-      let there = fitting (places plan) (fold_of plan l.words) (table_length (places plan) _) in
-      rw (eq-eqb _ 0 there.1, eq-eqb _ (places plan) there.0, unreduced_table (places plan) _)
-
-  -- of the tests that feed and close share only 10 is left
-  only_closed : (l : Ledger) → Known plan l → (ts : List Test)
-      → verdict (record_tests (ledger_state plan l).session ++ l.closed gives 10 ∷ out_tests (ledger_state plan l) ++ ts)
-      ≡ verdict (l.closed gives 10 ∷ ts)
-  unfolding verdict
-  only_closed l i ts =
-      never_broken l i (l.closed gives 10 ∷ out_tests (ledger_state plan l) ++ ts) ∙ ap (cond l.closed 10) (out_fits l ts)
-
-  feed_same : (piece : List ℕ) (l : Ledger) → Known plan l → feed_answer (ledger_state plan l) piece ≡ ledger_feed plan piece l
-  unfolding feed_answer
-  feed_same piece l i =
-      only_closed l i (unreduced p piece gives 5 ∷ ltb (capacity plan) (length l.words + length piece) gives 8 ∷ [])
-
-  close_same : (l : Ledger) → Known plan l → close_answer (ledger_state plan l) ≡ ledger_close plan l
-  unfolding close_answer
-  close_same l i = only_closed l i (ltb (length l.words) (capacity plan) gives 9 ∷ [])
-
-  read_same : (place : ℕ) (l : Ledger) → Known plan l → read_answer (ledger_state plan l) place ≡ ledger_read plan place l
-  unfolding read_answer
-  read_same place l i =
-      let ts = leb (places plan) place gives 14 ∷ [] in
-      ap (λ n. evaluated n (element_at (fold_of plan l.words) place))
-      (never_broken l i (out_tests (ledger_state plan l) ++ ts) ∙ out_fits l ts)
-
   -- an accepted call keeps what is known
   keeps : (c : Call) (l : Ledger) → Known plan l → (ledger_answer plan c l).number ≡ 0 → Known plan (entered c l)
   keeps (feed piece) l i e =
@@ -104,15 +41,15 @@ module _ (plan : Plan) (ok : Sound plan) (unused : nonzero (drop (4 * plan.k) pl
       → ((session_step c st).0 ≡ (ledger_step plan c l).0) × Tells (session_step c st).1 (ledger_step plan c l).1
   unfolding feed_leaves close_leaves
   step_same (feed piece) st l t =
-      let v = feed_same piece l t.1 in
+      let v = feed_same plan ok unused piece l t.1 in
       let q : fed (ledger_state plan l).session piece (ledger_state plan l).out ≡ ledger_state plan (entered (feed piece) l) =
       ap₂ (λ n w. state (session_of plan n l.closed) w) (sym (length-append l.words piece)) (joining.joined plan l.words piece) in
       rw t.0 (ap alone v, settle Tells v (refl, t.1) (λ e. (q, keeps (feed piece) l t.1 e)))
   step_same close st l t =
-      let v = close_same l t.1 in
+      let v = close_same plan ok unused l t.1 in
       rw t.0 (ap alone v, settle Tells v (refl, t.1) (λ e. (refl, keeps close l t.1 e)))
   step_same (read place) st l t =
-      rw (t.0, unchanged (ledger_read plan place l).number l) (read_same place l t.1, (refl, t.1))
+      rw (t.0, unchanged (ledger_read plan place l).number l) (read_same plan ok unused place l t.1, (refl, t.1))
 
 nonzero_zeros : (m : ℕ) → nonzero (replicate m 0) ≡ false
 unfolding nonzero
