@@ -42,11 +42,11 @@ both true false h = absurd h
 both false t h = absurd h
 
 -- a test that all numbers below n pass
-abbrev below : ℕ → (ℕ → Bool) → Bool
+abbrev pub below : ℕ → (ℕ → Bool) → Bool
 below zero P = true
 below (suc n) P = P n && below n P
 
-every : (n : ℕ) (P : ℕ → Bool) → T (below n P) → (i : ℕ) → i < n → T (P i)
+pub every : (n : ℕ) (P : ℕ → Bool) → T (below n P) → (i : ℕ) → i < n → T (P i)
 every zero P t i h = absurd (omega arith)
 every (suc n) P t i h = let passed = both (P n) _ t in go passed.0 (every n P passed.1 i) (eqb i n) refl
   where

@@ -1,5 +1,5 @@
 -- The laws of words below a modulus: how the test goes over a list, and what it says of each word. Assumes nothing.
-use mathlib.Core.Path.{◌≡◌, refl}
+use mathlib.Core.Path.{◌≡◌, refl, ap, ◌∙◌}
 use mathlib.Core.Bool.{Bool, true, false, ◌||◌}
 use Prim.Native.Nat.{ℕ, zero, suc, ◌+◌, ◌<◌}
 use native.Mathlib.Numerals.{add-one}
@@ -25,6 +25,10 @@ pub or_false : (a : Bool) → a || false ≡ a
 or_false true = refl
 or_false false = refl
 
+or_onward : (a b c : Bool) → a || (b || c) ≡ (a || b) || c
+or_onward true b c = refl
+or_onward false b c = refl
+
 module _ (m : ℕ) where
   -- a loop over the words ws, at word i
   module _ (ws : List ℕ) (i : ℕ) (h : i < length ws) where
@@ -48,6 +52,12 @@ module _ (m : ℕ) where
   pub unreduced_cons : (w : ℕ) (ws : List ℕ) → w < m → unreduced m ws ≡ false → unreduced m (w ∷ ws) ≡ false
   unfolding unreduced
   unreduced_cons w ws h e = rw (lt-leb m w h, e)
+
+  -- one word more
+  pub unreduced_push : (ws : List ℕ) (w : ℕ) → unreduced m (ws ++ (w ∷ [])) ≡ unreduced m ws || leb m w
+  unfolding unreduced
+  unreduced_push [] w = or_false (leb m w)
+  unreduced_push (v ∷ ws) w = ap (λ (b : Bool). leb m v || b) (unreduced_push ws w) ∙ or_onward (leb m v) (unreduced m ws) (leb m w)
 
   pub unreduced_append : (xs ys : List ℕ) → unreduced m xs ≡ false → unreduced m ys ≡ false → unreduced m (xs ++ ys) ≡ false
   unfolding unreduced

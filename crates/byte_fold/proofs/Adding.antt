@@ -1,4 +1,4 @@
--- Portion after block, from the section's first word to its last: how that starts, steps and ends. Assumes nothing.
+-- Block after block, from the section's first word to its last: how that starts, steps and ends. Assumes nothing.
 use mathlib.Core.Path.{◌≡◌, sym, ap, ◌∙◌}
 use Prim.Native.Nat.{ℕ, ◌+◌, ◌-◌, ◌*◌, ◌%◌, ◌^◌, ◌≤◌, ◌<◌, min}
 use native.Mathlib.Nat.{zero-mod, mod_self, mod-add-mod, mul-mod_right, mul-mod_left, zero-add}
@@ -7,7 +7,6 @@ use native.Mathlib.Omega.{arith}
 use mathlib.Core.List.{List}
 use lib.ListN.{length, replicate}
 use lib.Pow.{pow-add, pow_pos, pow_mono}
-use Rattle.octets.specs.Octets.{words}
 use Rattle.multilinear.specs.declared.Side.{Side}
 use Rattle.multilinear.specs.declared.Side.TheVariants.{Prefix, Suffix}
 use Rattle.table.proofs.Laws.{table_length}
@@ -26,77 +25,81 @@ rest_of m a c h = sym (mod-add-mod a m c) ∙ (rw (h, zero-add c))
     let q : held + (12 - held) ≡ 12 = omega arith in
     ap (λ m. m % 2 ^ held) (sym (sym (pow-add 2 held (12 - held)) ∙ ap (λ m. 2 ^ m) q)) ∙ mul-mod_right (2 ^ held) (2 ^ (12 - held))
 
--- the next block has at most `len` words
-pub record Adding (s : Section) (ws : List ℕ) (at len : ℕ) (sums : List ℕ) : Type 0 where
-  pub within : at ≤ capacity s.plan
-  pub some : 0 < len
-  pub few : len ≤ most_block
-  pub whole : s.plan.side ≡ Prefix → (at % places s.plan ≡ 0) × (len % places s.plan ≡ 0)
-  pub sums_are : sums ≡ sums_to s ws at
+-- blocks up to word `at` are added, or all where `at` is beyond the last word
+pub record Adding (s : Section) (at : ℕ) (sums : List ℕ) : Type 0 where
+  pub whole : s.plan.side ≡ Prefix → at % places s.plan ≡ 0
+  pub sums_are : sums ≡ sums_to s (min at (capacity s.plan))
 
--- the first row
-first_some : (side : Side) (m : ℕ) → 0 < m → 0 < first_row side m
-first_some Prefix m h = h
-first_some Suffix m h = omega arith
-
-first_few : (side : Side) (m : ℕ) → m ≤ 2 ^ 10 → first_row side m ≤ 4096
-first_few Prefix m h = omega arith
-first_few Suffix m h = omega arith
-
-module _ {s : Section} {table : List ℕ} (d : Cut s table) where
+module _ {s : Section} (d : Cut s) where
   abbrev H : ℕ
   H = places s.plan
 
-  pub start : {len m z : ℕ} {sums : List ℕ} → len ≡ first_row s.plan.side m → m ≡ H → z ≡ 4 * H → sums ≡ replicate z 0
-      → Adding s (words table) 0 len sums
+  -- the sums have room
+  pub sums_fit : {z : ℕ} → z ≡ H → 4 * z ≤ most_block
+  sums_fit e = let le : H ≤ 2 ^ 10 = pow_mono {j = 10} d.few in omega (arith, le)
+
+  -- no sum yet
+  pub none_added : {z : ℕ} {sums : List ℕ} → z ≡ 4 * H → sums ≡ replicate z 0 → sums ≡ sums_to s 0
   unfolding first_words
-  start l r e q =
-      record {
-        within = omega arith;
-        some = rw (l, r) (first_some s.plan.side H (pow_pos (s.plan.n - s.plan.k)));
-        few = rw (l, r) (first_few s.plan.side H (pow_mono d.few));
-        whole = λ p. (zero-mod H, rw (l, r, p) (mod_self H));
-        sums_are = q ∙ ap (λ m. replicate m 0) e ∙ none s.plan;
-      }
+  none_added e q = q ∙ ap (λ m. replicate m 0) e ∙ none s.plan
 
-  module _ {at len end count : ℕ} {sums : List ℕ} (a : Adding s (words table) at len sums) (q : end ≡ capacity s.plan)
-      (more : at < end) (c : count ≡ min len (end - at)) where
-    pub count_some : 0 < count
-    count_some = omega (arith, a.some, c)
+  -- the first row is a block
+  module _ {len : ℕ} (l : len ≡ first_row s.plan.side H) where
+    first_few : (side : Side) → first_row side H ≤ capacity s.plan × first_row side H ≤ most_block
+    first_few Prefix =
+        (pow_mono {j = s.plan.n} (omega arith), (let le : H ≤ 2 ^ 10 = pow_mono {j = 10} d.few in omega (arith, le)))
+    first_few Suffix = (pow_pos s.plan.n, omega arith)
 
-    pub count_within : at + count ≤ end
-    count_within = omega (arith, c)
+    first_whole : s.plan.side ≡ Prefix → len % H ≡ 0
+    first_whole e = let m : len ≡ H = l ∙ ap (λ side. first_row side H) e in rw m (mod_self H)
 
-    count_rows : s.plan.side ≡ Prefix → count % H ≡ 0
-    count_rows e = go (dec_lt len (end - at))
+    pub first_block : Portion s.plan 0 (len - 0)
+    first_block =
+        let few = first_few s.plan.side in
+        let all : len - 0 ≡ len = omega arith in
+        record {
+          within = omega (arith, l, few.0);
+          most_words = omega (arith, l, few.1);
+          whole = λ e. (zero-mod H, rw all (first_whole e));
+        }
+
+    pub first_added : {sums : List ℕ} → sums ≡ sums_to s len → Adding s len sums
+    first_added e =
+        let m : min len (capacity s.plan) ≡ len = omega (arith, l, (first_few s.plan.side).0) in
+        record { whole = first_whole; sums_are = rw m e }
+
+  module _ {at end stop : ℕ} {sums : List ℕ} (a : Adding s at sums) (q : end ≡ capacity s.plan)
+      (more : at < end) (c : stop ≡ min end (at + 4096)) where
+    count_rows : s.plan.side ≡ Prefix → (stop - at) % H ≡ 0
+    count_rows e = go (dec_lt (at + 4096) end)
       where
-        go : Dec (len < end - at) → count % H ≡ 0
-        go (yes h) = let l : count ≡ len = omega (arith, c) in rw l (a.whole e).1
+        go : Dec (at + 4096 < end) → (stop - at) % H ≡ 0
+        go (yes h) = let l : stop - at ≡ 4096 = omega (arith, c) in rw l (4096_is (s.plan.n - s.plan.k) d.few)
         go (no h) =
-            let l : at + count ≡ end = omega (arith, c) in
-            sym (rest_of H at count (a.whole e).0) ∙ (rw (l, q, all_words s.plan d.sound.fits) (mul-mod_left _ H))
+            let l : at + (stop - at) ≡ end = omega (arith, c) in
+            sym (rest_of H at (stop - at) (a.whole e)) ∙ (rw (l, q, all_words s.plan d.sound.fits) (mul-mod_left _ H))
 
-    pub block : Portion s.plan at count
+    pub block : Portion s.plan at (stop - at)
     block =
         record {
-          within = rw (sym q) count_within;
-          most_words = omega (arith, c, a.few);
-          whole = λ e. ((a.whole e).0, count_rows e);
+          within = omega (arith, c, q);
+          most_words = omega (arith, c);
+          whole = λ e. (a.whole e, count_rows e);
         }
 
-    pub turn : {w : List ℕ} → w ≡ sums_to s (words table) (at + count) → Adding s (words table) (at + count) 4096 w
+    pub start_sums : sums ≡ sums_to s at
+    start_sums = let m : min at (capacity s.plan) ≡ at = omega (arith, q) in rw m at a.sums_are
+
+    pub turn : {w : List ℕ} → w ≡ sums_to s stop → Adding s (at + 4096) w
     turn e =
+        let m : min (at + 4096) (capacity s.plan) ≡ stop = omega (arith, c, q) in
         record {
-          within = block.within;
-          some = omega arith;
-          few = omega arith;
-          whole = λ e. (rest_of H at count (a.whole e).0 ∙ count_rows e, 4096_is (s.plan.n - s.plan.k) d.few);
-          sums_are = e;
+          whole = λ h. rest_of H at 4096 (a.whole h) ∙ 4096_is (s.plan.n - s.plan.k) d.few;
+          sums_are = rw m e;
         }
 
-  pub finish : {at len end : ℕ} {sums : List ℕ} → Adding s (words table) at len sums → end ≡ capacity s.plan → end ≤ at
-      → sums ≡ sums_to s (words table) (capacity s.plan)
-  finish {at} a q h = let e : at ≡ capacity s.plan = omega (arith, a.within) in rw e at a.sums_are
+  pub finish : {at end : ℕ} {sums : List ℕ} → Adding s at sums → end ≡ capacity s.plan → end ≤ at → sums ≡ sums_to s (capacity s.plan)
+  finish {at} a q h = let m : min at (capacity s.plan) ≡ capacity s.plan = omega (arith, q) in rw m at a.sums_are
 
-  pub sums_size : {at len : ℕ} {sums : List ℕ} → Adding s (words table) at len sums → length sums ≡ 4 * H
-  sums_size a = ap length a.sums_are ∙ table_length H _
+  pub sums_size : (n : ℕ) {sums : List ℕ} → sums ≡ sums_to s n → length sums ≡ 4 * H
+  sums_size n e = ap length e ∙ table_length H _

@@ -16,7 +16,10 @@ use Rattle.byte_fold.specs.declared.Section.{Section}
 use Rattle.byte_fold.specs.Inner.{Cut, Portion, Strided, block_at, first_words, row_word}
 use Rattle.byte_fold.proofs.Words.{first_ext, first_part}
 
-module _ {s : Section} {table : List ℕ} {at count : ℕ} (d : Cut s table) (b : Portion s.plan at count) where
+module _ {s : Section} {at count : ℕ} (d : Cut s) (b : Portion s.plan at count) where
+  abbrev table : List ℕ
+  table = s.table.now
+
   abbrev R : ℕ
   R = rows s.plan
 
@@ -36,7 +39,7 @@ module _ {s : Section} {table : List ℕ} {at count : ℕ} (d : Cut s table) (b 
         rw r (omega (arith, d.count, b.within, all, add-mul s.from H R, mul_comm H R, mul_comm s.inner R))
 
     pub suffix_read : s.plan.side ≡ Suffix → {w : List ℕ} → w ≡ take count (drop (s.from * rs + at) (words table))
-        → w ≡ block_at s (words table) at count
+        → w ≡ block_at s at count
     unfolding origin_of
     suffix_read e q =
         q
@@ -49,7 +52,7 @@ module _ {s : Section} {table : List ℕ} {at count : ℕ} (d : Cut s table) (b 
       pub whole_there : 4 * (at + count) ≤ length table
       whole_there = omega (arith, d.count, b.within, all, ap (λ m. R * m) (sym r ∙ whole))
 
-      pub whole_read : {w : List ℕ} → w ≡ take count (drop at (words table)) → w ≡ block_at s (words table) at count
+      pub whole_read : {w : List ℕ} → w ≡ take count (drop at (words table)) → w ≡ block_at s at count
       unfolding origin_of
       whole_read q =
           let z : s.from ≡ 0 = omega (arith, d.within) in
@@ -75,7 +78,7 @@ module _ {s : Section} {table : List ℕ} {at count : ℕ} (d : Cut s table) (b 
     start_fits =
         rw r (omega (arith, row_there (at / H) (omega (arith, row_within)), row_there 1 (pow_pos s.plan.k), d.within))
 
-    pub strided : Strided ps s.inner (at / ps * s.inner + s.from) table count
+    pub strided : Strided (record { places = ps; inner = s.inner; start = at / ps * s.inner + s.from }) table count
     strided =
         record {
           some = rw r (pow_pos (s.plan.n - s.plan.k));
@@ -90,8 +93,9 @@ module _ {s : Section} {table : List ℕ} {at count : ℕ} (d : Cut s table) (b 
               ));
         }
 
-    pub rows_read : {w : List ℕ} → w ≡ first_words count (row_word ps s.inner (at / ps * s.inner + s.from) (words table))
-        → w ≡ block_at s (words table) at count
+    pub rows_read : {w : List ℕ}
+        → w ≡ first_words count (row_word (record { places = ps; inner = s.inner; start = at / ps * s.inner + s.from }) (words table))
+        → w ≡ block_at s at count
     unfolding origin_of
     rows_read q = q ∙ first_ext count _ _ (λ i h. rw (e, r) (ap (λ m. get_or (words table) m 0) (origin i)))
       where

@@ -1,5 +1,5 @@
 pub mod Words
-pub mod Rows
+pub mod Reading
 pub mod Gathering
 pub mod Blocks
 pub mod Adding

@@ -7,6 +7,7 @@ use mathlib.Core.List.{List}
 use lib.ListN.{length, get_or}
 use lib.Pow.{pow-add}
 use borrow.Rule.Slice.PartMut.{mid_of, put_mid}
+use Rattle.std.specs.Borrow.{Bor}
 use Rattle.octets.specs.Octets.{words, octets}
 use Rattle.octets.proofs.Octets.{octets_length, octets_append}
 use Rattle.field.specs.Field.{Ext, base}
@@ -32,8 +33,11 @@ bytes_of m f = omega (arith, octets_length (table_words m f), table_length m f)
 pub record Joined (plan : Plan) (ws : List ℕ) (m : ℕ) (was out : List ℕ) : Type 0 where
   pub front : Front (16 * m) (octets (table_words m (whole_at plan ws))) was out
 
-module _ {plan : Plan} {table was : List ℕ} (s : FillsBytes plan table was) {held size count : ℕ} (h : held ≡ min (plan.n - plan.k) 10)
-    (r : size ≡ 2 ^ held) (c : count ≡ 2 ^ (plan.n - plan.k - held)) where
+module _ {plan : Plan} (lent : Bor (List ℕ)) {was : List ℕ} (s : FillsBytes plan lent.now was) {held size count : ℕ}
+    (h : held ≡ min (plan.n - plan.k) 10) (r : size ≡ 2 ^ held) (c : count ≡ 2 ^ (plan.n - plan.k - held)) where
+  abbrev table : List ℕ
+  table = lent.now
+
   pub start : Joined plan (words table) (size * 0) was was
   unfolding octets table_words
   start = record { front = rw (mul-zero size) (front_start was) }
@@ -52,8 +56,8 @@ module _ {plan : Plan} {table was : List ℕ} (s : FillsBytes plan table was) {h
     pub part_within : 16 * (size * j) + 16 * size ≤ length was
     part_within = omega (arith, within, s.room)
 
-    module _ {σ : Section} (e : σ ≡ cut_of plan held (size * j)) where
-      pub cut : Cut σ table
+    module _ {σ : Section} (e : σ ≡ cut_of plan lent held (size * j)) where
+      pub cut : Cut σ
       cut =
           rw e
           (record {
@@ -73,16 +77,18 @@ module _ {plan : Plan} {table was : List ℕ} (s : FillsBytes plan table was) {h
         abbrev a : ℕ
         a = 16 * (size * j)
 
-        pub lent : length (mid_of a (a + 16 * size - a) out) ≡ 16 * places σ.plan
-        lent = front_lent d.front (16 * size) part_within ∙ ap (λ m. 16 * m) (r ∙ sym (places_of plan held) ∙ ap (λ (x : Section). places x.plan) (sym e))
+        pub part : length (mid_of a (a + 16 * size - a) out) ≡ 16 * places σ.plan
+        part =
+            front_lent d.front (16 * size) part_within
+            ∙ ap (λ m. 16 * m) (r ∙ sym (places_of plan held) ∙ ap (λ (x : Section). places x.plan) (sym e))
 
-        pub turn : {ys : List ℕ} → ys ≡ octets (sums_to σ (words table) (capacity σ.plan))
+        pub turn : {ys : List ℕ} → ys ≡ octets (sums_to σ (capacity σ.plan))
             → Joined plan (words table) (size * (j + 1)) was (put_mid a (a + 16 * size - a) out ys)
         turn {ys} q =
             let more : size * (j + 1) ≡ size * j + size = mul-add size j 1 ∙ ap (λ m. size * j + m) (mul-one size) in
             let next : a + 16 * size ≡ 16 * (size * j + size) = omega arith in
-            let part : ys ≡ octets (table_words size (λ i. whole_at plan (words table) (size * j + i))) =
-            q ∙ ap (λ (x : Section). octets (sums_to x (words table) (capacity x.plan))) e
+            let row : ys ≡ octets (table_words size (λ i. whole_at plan (words table) (size * j + i))) =
+            q ∙ ap (λ (x : Section). octets (sums_to x (capacity x.plan))) e
             ∙ ap octets
             (section plan held (size * j) (λ t. base (get_or (words table) t 0)) _
             (λ t l. ap base
@@ -90,8 +96,8 @@ module _ {plan : Plan} {table was : List ℕ} (s : FillsBytes plan table was) {h
             ∙ ap (λ m. get_or (words table) (origin_of plan.side (places plan) (rows plan) m (size * j) t) 0) (places_of plan held)))
             ∙ ap (λ m. table_words m (λ i. whole_at plan (words table) (size * j + i))) (sym r)) in
             record {
-              front = rw (more, table_append (size * j) size (whole_at plan (words table)), octets_append, ← part, ← next)
-                  (front_turn d.front (16 * size) part_within ys (ap length part ∙ bytes_of size _));
+              front = rw (more, table_append (size * j) size (whole_at plan (words table)), octets_append, ← row, ← next)
+                  (front_turn d.front (16 * size) part_within ys (ap length row ∙ bytes_of size _));
             }
 
   pub finish : {j : ℕ} {out : List ℕ} → Joined plan (words table) (size * j) was out → j ≤ count → count ≤ j

@@ -1,5 +1,6 @@
 -- What the functions take and give. No operation that users call cites it. Assumes nothing.
 use Rattle.std.specs.Prelude.{◌≡◌, false, ℕ, zero, suc, ◌+◌, ◌-◌, ◌*◌, ◌/◌, ◌%◌, ◌≤◌, ◌<◌, List, [], ◌∷◌, length, get_or}
+use Rattle.std.specs.Borrow.{Bor}
 use Rattle.octets.specs.Octets.{words}
 use Rattle.algebra.specs.Words.{unreduced}
 use Rattle.multilinear.specs.declared.Side.{Side}
@@ -10,6 +11,7 @@ use Rattle.plan.specs.Plan.{rows, places, capacity, fold_of}
 use Rattle.plan.specs.Sound.{Sound}
 use Rattle.plan.specs.Section.{section_of, origin_of}
 use Rattle.byte_fold.specs.declared.Section.{Section}
+use Rattle.byte_fold.specs.declared.Rows.{Rows}
 
 -- most places whose sums are held at a time, as variables, and most words of a block
 abbrev pub most_held : ℕ
@@ -25,34 +27,34 @@ pub record FillsBytes (plan : Plan) (table out : List ℕ) : Type 0 where
   pub below : unreduced p (words table) ≡ false
   pub room : length out ≡ 16 * places plan
 
--- 2^held places of a fold, from place `from` on
-abbrev pub cut_of : Plan → ℕ → ℕ → Section
-cut_of plan held from = record { plan = section_of plan held; inner = places plan; from = from }
+-- 2^held places of the fold of a table in bytes, from place `from` on
+abbrev pub cut_of : Plan → Bor (List ℕ) → ℕ → ℕ → Section
+cut_of plan table held from = record { plan = section_of plan held; inner = places plan; from = from; table = table }
 
 -- a section of a table in bytes: a sound plan of few places, those from `from` on of the table's `inner` ones
-pub record Cut (s : Section) (table : List ℕ) : Type 0 where
+pub record Cut (s : Section) : Type 0 where
   pub sound : Sound s.plan
   pub few : s.plan.n - s.plan.k ≤ most_held
   pub within : s.from + places s.plan ≤ s.inner
-  pub count : length table ≡ 4 * (rows s.plan * s.inner)
-  pub below : unreduced p (words table) ≡ false
+  pub count : length s.table.now ≡ 4 * (rows s.plan * s.inner)
+  pub below : unreduced p (words s.table.now) ≡ false
 
 -- f 0, f 1, .. f (n - 1)
 unfoldable pub first_words : ℕ → (ℕ → ℕ) → List ℕ
 first_words zero f = []
 first_words (suc n) f = f 0 ∷ first_words n (λ i. f (suc i))
 
--- word t of the section's table, among the words ws of the whole one
-abbrev pub section_at : Section → List ℕ → ℕ → ℕ
-section_at s ws t = get_or ws (origin_of s.plan.side s.inner (rows s.plan) (places s.plan) s.from t) 0
+-- word t of the section's table, among the words of the whole one
+abbrev pub section_at : Section → ℕ → ℕ
+section_at s t = get_or (words s.table.now) (origin_of s.plan.side s.inner (rows s.plan) (places s.plan) s.from t) 0
 
 -- the section's words from word `at` on, n of them
-abbrev pub block_at : Section → List ℕ → ℕ → ℕ → List ℕ
-block_at s ws at n = first_words n (λ i. section_at s ws (at + i))
+abbrev pub block_at : Section → ℕ → ℕ → List ℕ
+block_at s at n = first_words n (λ i. section_at s (at + i))
 
 -- the sums of the section's places over its first n words
-abbrev pub sums_to : Section → List ℕ → ℕ → List ℕ
-sums_to s ws n = fold_of s.plan (first_words n (section_at s ws))
+abbrev pub sums_to : Section → ℕ → List ℕ
+sums_to s n = fold_of s.plan (first_words n (section_at s))
 
 -- a block of a section's words, from word `at` on; on the prefix side whole rows
 pub record Portion (plan : Plan) (at count : ℕ) : Type 0 where
@@ -65,12 +67,12 @@ abbrev pub first_row : Side → ℕ → ℕ
 first_row Prefix places = places
 first_row Suffix places = 1
 
--- `count` words, whole rows of `places` words, `inner` apart in the table from word `start` on
-pub record Strided (places inner start : ℕ) (table : List ℕ) (count : ℕ) : Type 0 where
-  pub some : 0 < places
-  pub whole : count % places ≡ 0
-  pub there : (r : ℕ) → r < count / places → 4 * (start + r * inner + places) ≤ length table
+-- `count` words, which are whole rows of these, and the table has them
+pub record Strided (rows : Rows) (table : List ℕ) (count : ℕ) : Type 0 where
+  pub some : 0 < rows.places
+  pub whole : count % rows.places ≡ 0
+  pub there : (r : ℕ) → r < count / rows.places → 4 * (rows.start + r * rows.inner + rows.places) ≤ length table
 
 -- word i of these rows
-abbrev pub row_word : ℕ → ℕ → ℕ → List ℕ → ℕ → ℕ
-row_word places inner start ws i = get_or ws (start + i / places * inner + i % places) 0
+abbrev pub row_word : Rows → List ℕ → ℕ → ℕ
+row_word rows ws i = get_or ws (rows.start + i / rows.places * rows.inner + i % rows.places) 0

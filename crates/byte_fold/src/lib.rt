@@ -13,6 +13,7 @@ ghost use Rattle.byte_fold.specs.Inner.{most_block, FillsBytes, cut_of, Cut, blo
 
 use multilinear::Side;
 use plan::Plan;
+use std::ops::Range;
 
 // The most places whose sums are held at a time, as variables.
 const HELD: usize = 10;
@@ -20,12 +21,21 @@ const HELD: usize = 10;
 // The most words of a block.
 const BLOCK: usize = 4096;
 
-// The places from `from` on of a table of `inner` places, as many as the plan has.
+// The places from `from` on of a table of `inner` places, as many as the plan has, and that table.
 #[derive(Clone, Copy)]
-struct Section {
+struct Section<'a> {
     plan: Plan,
     inner: usize,
     from: usize,
+    table: &'a [u8],
+}
+
+// Rows of `places` words that stand `inner` words apart, from word `start` on.
+#[derive(Clone, Copy)]
+struct Rows {
+    places: usize,
+    inner: usize,
+    start: usize,
 }
 
 // out becomes the bytes of the fold.
@@ -35,121 +45,126 @@ pub fn compress(plan: Plan, table: &[u8], out: &mut [u8])
 {
     let held = table::min(plan.n - plan.k, HELD);
     let places = table::rows(held);
+    // No plainer: nothing is known of a slice that `chunks_exact_mut` lent.
     for j in 0..table::rows(plan.n - plan.k - held) {
         let from = places * j;
         let start = 16 * from;
         let stop = start + 16 * places;
-        fold_section(section_of(plan, held, from), table, &mut out[start..stop]);
+        let section = Section::new(plan, table, held, from);
+        section.fold(&mut out[start..stop]);
     }
 }
 
-// 2^held places of a fold, from place `from` on.
-fn section_of(plan: Plan, held: usize, from: usize) -> Section
-    requires { Sound plan × (held ≤ plan.n - plan.k) }
-    ensures { result ≡ cut_of plan held from }
-{
-    let side = plan.side;
-    let weight = plan.weight;
-    let scale = plan.scale;
-    let coordinates = plan.coordinates;
-    Section {
-        plan: Plan {
-            n: plan.k + held,
-            k: plan.k,
-            side,
-            weight,
-            scale,
-            coordinates,
-        },
-        inner: table::rows(plan.n - plan.k),
-        from,
+impl<'a> Section<'a> {
+    // 2^held places of a fold, from place `from` on.
+    fn new(plan: Plan, table: &'a [u8], held: usize, from: usize) -> Section<'a>
+        requires { Sound plan × (held ≤ plan.n - plan.k) }
+        ensures { result ≡ cut_of plan table.exit held from }
+    {
+        Section {
+            plan: Plan {
+                n: plan.k + held,
+                ..plan
+            },
+            inner: table::rows(plan.n - plan.k),
+            from,
+            table,
+        }
     }
-}
 
-// The section's places, in its part of out.
-fn fold_section(section: Section, table: &[u8], out: &mut [u8])
-    requires { Cut section table.now × (length out.old ≡ 16 * places section.plan) }
-    ensures { out.new ≡ octets (sums_to section (words table.now) (capacity section.plan)) }
-{
-    let mut sums = room();
-    let len = 4 * table::rows(section.plan.n - section.plan.k);
-    add_blocks(section, table, &mut sums[..len]);
-    octets::encode(&sums[..len], out);
-}
-
-// The sums of the section's places gain block after block. A shifted row's weight is that of the row before, so blocks that start a row
-// late have the weights of whole blocks of rows; the first row weighs nothing.
-fn add_blocks(section: Section, table: &[u8], sums: &mut [u32])
-    requires { Cut section table.now × (length sums.old ≡ 4 * places section.plan) }
-    ensures { sums.new ≡ sums_to section (words table.now) (capacity section.plan) }
-{
-    let plan = section.plan;
-    let side = plan.side;
-    let end = table::rows(plan.n);
-    let mut at = 0;
-    let mut len = first_row(side, table::rows(plan.n - plan.k));
-    table::clear(sums);
-    while at < end {
-        let count = table::min(len, end - at);
-        add_block(section, table, at, count, sums);
-        at += count;
-        len = BLOCK;
+    // The section's places, in its part of out.
+    fn fold(&self, out: &mut [u8])
+        requires { Cut self.now × (length out.old ≡ 16 * places self.now.plan) }
+        ensures { out.new ≡ octets (sums_to self.now (capacity self.now.plan)) }
+    {
+        let mut room = room();
+        let sums = &mut room[..4 * table::rows(self.plan.n - self.plan.k)];
+        self.add_blocks(sums);
+        octets::encode(sums, out);
     }
-}
 
-// The words of the first row that come first: all of it, or the first place's one.
-fn first_row(side: Side, places: usize) -> usize
-    ensures { result ≡ first_row side places }
-{
-    match side {
-        Side::Prefix => places,
-        Side::Suffix => 1,
+    // The sums of the section's places gain block after block. A shifted row's weight is that of the row before, so blocks that start a
+    // row late have the weights of whole blocks of rows; the first row weighs nothing.
+    fn add_blocks(&self, sums: &mut [u32])
+        requires { Cut self.now × (length sums.old ≡ 4 * places self.now.plan) }
+        ensures { sums.new ≡ sums_to self.now (capacity self.now.plan) }
+    {
+        let end = table::rows(self.plan.n);
+        let first = self.first_row();
+        table::clear(sums);
+        self.add_block(0..first, sums);
+        for at in (first..end).step_by(BLOCK) {
+            self.add_block(at..end.min(at + BLOCK), sums);
+        }
     }
-}
 
-// The sums gain a block.
-fn add_block(section: Section, table: &[u8], at: usize, count: usize, sums: &mut [u32])
-    requires cut { Cut section table.now × Portion section.plan at count }
-    requires sums_value { sums.old ≡ sums_to section (words table.now) at }
-    ensures { sums.new ≡ sums_to section (words table.now) (at + count) }
-{
-    let mut words = room();
-    gather(section, table, at, &mut words[..count]);
-    let plan = section.plan;
-    piece::add(plan, at, &words[..count], sums);
-}
+    // The words of the first row that come first: all of it, or the first place's one.
+    fn first_row(&self) -> usize
+        requires { Cut self.now }
+        ensures { result ≡ first_row self.now.plan.side (places self.now.plan) }
+    {
+        match self.plan.side {
+            Side::Prefix => table::rows(self.plan.n - self.plan.k),
+            Side::Suffix => 1,
+        }
+    }
 
-// Fills block with the section's words from word `at` on.
-fn gather(section: Section, table: &[u8], at: usize, block: &mut [u32])
-    requires { Cut section table.now × Portion section.plan at (length block.old) }
-    ensures { block.new ≡ block_at section (words table.now) at (length block.old) }
-{
-    let plan = section.plan;
-    let side = plan.side;
-    match side {
-        Side::Suffix => octets::decode(table, section.from * table::rows(plan.k) + at, block),
-        Side::Prefix => {
-            let places = table::rows(plan.n - plan.k);
-            if places == section.inner {
-                octets::decode(table, at, block);
-            } else {
-                let start = at / places * section.inner + section.from;
-                gather_rows(table, section.inner, places, start, block);
+    // The sums gain a block.
+    fn add_block(&self, block: Range<usize>, sums: &mut [u32])
+        requires cut { Cut self.now × (block.start ≤ block.end) }
+        requires portion { Portion self.now.plan block.start (block.end - block.start) }
+        requires sums_value { sums.old ≡ sums_to self.now block.start }
+        ensures { sums.new ≡ sums_to self.now block.end }
+    {
+        let at = block.start;
+        let mut room = room();
+        let words = &mut room[..block.end - at];
+        self.gather(at, words);
+        piece::add(self.plan, at, words, sums);
+    }
+
+    // Fills block with the section's words from word `at` on.
+    fn gather(&self, at: usize, block: &mut [u32])
+        requires { Cut self.now × Portion self.now.plan at (length block.old) }
+        ensures { block.new ≡ block_at self.now at (length block.old) }
+    {
+        match self.plan.side {
+            Side::Suffix => octets::decode(
+                self.table,
+                self.from * table::rows(self.plan.k) + at,
+                block,
+            ),
+            Side::Prefix => {
+                let own = table::rows(self.plan.n - self.plan.k);
+                if own == self.inner {
+                    octets::decode(self.table, at, block);
+                } else {
+                    let rows = Rows {
+                        places: own,
+                        inner: self.inner,
+                        start: at / own * self.inner + self.from,
+                    };
+                    rows.gather(self.table, block);
+                }
             }
         }
     }
 }
 
-// Fills block with rows of `places` words that stand `inner` words apart in the table, from word `start` on.
-fn gather_rows(table: &[u8], inner: usize, places: usize, start: usize, block: &mut [u32])
-    requires { Strided places inner start table.now (length block.old) }
-    ensures { block.new
-        ≡ first_words (length block.old) (row_word places inner start (words table.now)) }
-{
-    for r in 0..block.len() / places {
-        let a = r * places;
-        let e = a + places;
-        octets::decode(table, start + r * inner, &mut block[a..e]);
+impl Rows {
+    // Fills block with these rows of the table.
+    fn gather(&self, table: &[u8], block: &mut [u32])
+        requires { Strided self.now table.now (length block.old) }
+        ensures { block.new ≡ first_words (length block.old) (row_word self.now (words table.now)) }
+    {
+        for r in 0..block.len() / self.places {
+            let at = r * self.places;
+            octets::decode(
+                table,
+                self.start + r * self.inner,
+                &mut block[at..at + self.places],
+            );
+        }
     }
 }
 

@@ -1,2 +1,3 @@
 pub mod Sizes
-mod Outcomes
+pub mod Outcomes
+mod Parts

@@ -2,209 +2,251 @@
 // number of lengths, and nothing is touched.
 #![tactic(auto)]
 
-use field::{Element, Value};
-use fixing::Remaining;
-use next::Next;
-use table::{Evaluation, Refusal, Verdict};
+use field::Element;
+use point::equality;
+use split_eq::{fold, scalar, value};
+use std::error::Error;
+use std::fmt;
+use table::Refusal;
 
-// No operation's answer.
-const NO_OPERATION: u32 = 255;
+#[derive(Clone, Copy, Debug, PartialEq, Eq)]
+pub enum Operation {
+    EqualityAtVertex,
+    EqualityWeightsMsb,
+    EqualityWeightsLsb,
+    EvalEq,
+    EvalNext,
+    EvalSelect,
+    NewFromPoint,
+    NewNextFromPoint,
+    EvalEqBatch,
+    EvalEqBatchAdd,
+    PolyEvalBase,
+    PolyEvalExt,
+    PolyEvalNextBase,
+    SplitEvalBase,
+    SplitEvalExt,
+    SplitEvalNextBase,
+    LastScalar,
+    AccumulateInto,
+    CompressPrefix,
+    CompressSuffix,
+    CompressPrefixShifted,
+    CompressSuffixShifted,
+    FixPrefixVarMut,
+    FixSuffixVarMut,
+    FixPrefixVarMutMonomial,
+    SumPrefixVarMut,
+}
 
-// The number of lengths.
-const LENGTHS: u32 = 4;
+// A number that is no operation's.
+#[derive(Clone, Copy, Debug, PartialEq, Eq)]
+pub struct UnknownOperation(pub u32);
 
-// 1 to 13: the operations on one or two slices.
-pub fn call(operation: u32, a: &[u32], b: &[u32], number: u32, out: &mut [u32]) -> u32 {
-    match operation {
-        1 => give(point::equality::equality_at_vertex(a, number as usize), out),
-        2 => point::equality::equality_weights_msb(a, out).answer(),
-        3 => point::equality::equality_weights_lsb(a, out).answer(),
-        4 => give(next::eval_eq(a, b), out),
-        5 => give_next(next::eval_next(a, b), out),
-        6 => give(point::select::eval_select(number, a), out),
-        7 => new_from_point(a, b, out),
-        8 => poly::new_next_from_point(a, out).answer(),
-        9 => eq_batch::eval_eq_batch(number as usize, a, b, out).answer(),
-        10 => eq_batch::eval_eq_batch_add(number as usize, a, b, out).answer(),
-        11 => give(poly::value::eval_base(a, b), out),
-        12 => give(poly::value::eval_ext(a, b), out),
-        13 => give(poly::value::eval_next_base(a, b), out),
-        _ => NO_OPERATION,
+impl fmt::Display for UnknownOperation {
+    fn fmt<W: fmt::Write>(&self, f: &mut fmt::Formatter<W>) -> fmt::Result {
+        write!(f, "no operation {}", self.0)
     }
 }
 
-// 14 to 26: with work, or with a table that is changed.
-pub fn call_parted(
-    operation: u32,
-    a: &[u32],
-    b: &[u32],
-    c: &[u32],
-    work: &mut [u32],
-    out: &mut [u32],
-) -> u32 {
-    match operation {
-        14..=16 => value(operation, a, b, c, work, out),
-        17 => last_scalar(a, b, work, out),
-        18 => accumulate_into(a, b, c, work, out),
-        19..=22 => fold(operation, a, b, c, work, out),
-        23..=25 => fix(operation, a, work, out),
-        26 => sum(work, out),
-        _ => NO_OPERATION,
+impl Error for UnknownOperation {}
+
+impl TryFrom<u32> for Operation {
+    type Error = UnknownOperation;
+
+    fn try_from(number: u32) -> Result<Self, UnknownOperation> {
+        Ok(match number {
+            1 => Operation::EqualityAtVertex,
+            2 => Operation::EqualityWeightsMsb,
+            3 => Operation::EqualityWeightsLsb,
+            4 => Operation::EvalEq,
+            5 => Operation::EvalNext,
+            6 => Operation::EvalSelect,
+            7 => Operation::NewFromPoint,
+            8 => Operation::NewNextFromPoint,
+            9 => Operation::EvalEqBatch,
+            10 => Operation::EvalEqBatchAdd,
+            11 => Operation::PolyEvalBase,
+            12 => Operation::PolyEvalExt,
+            13 => Operation::PolyEvalNextBase,
+            14 => Operation::SplitEvalBase,
+            15 => Operation::SplitEvalExt,
+            16 => Operation::SplitEvalNextBase,
+            17 => Operation::LastScalar,
+            18 => Operation::AccumulateInto,
+            19 => Operation::CompressPrefix,
+            20 => Operation::CompressSuffix,
+            21 => Operation::CompressPrefixShifted,
+            22 => Operation::CompressSuffixShifted,
+            23 => Operation::FixPrefixVarMut,
+            24 => Operation::FixSuffixVarMut,
+            25 => Operation::FixPrefixVarMutMonomial,
+            26 => Operation::SumPrefixVarMut,
+            _ => return Err(UnknownOperation(number)),
+        })
     }
 }
 
-fn new_from_point(point: &[u32], scale: &[u32], out: &mut [u32]) -> u32 {
-    if scale.len() != 4 {
-        return LENGTHS;
-    }
-    poly::new_from_point(point, table::get(scale, 0), out).answer()
-}
-
-fn value(
-    operation: u32,
-    table: &[u32],
-    point: &[u32],
-    scale: &[u32],
-    work: &mut [u32],
-    out: &mut [u32],
-) -> u32 {
-    if scale.len() != 4 || out.len() != 4 {
-        return LENGTHS;
-    }
-    let scale = table::get(scale, 0);
-    match operation {
-        14 => give(split_eq::value::eval_base(table, point, scale, work), out),
-        15 => give(split_eq::value::eval_ext(table, point, scale, work), out),
-        _ => give(
-            split_eq::value::eval_next_base(table, point, scale, work),
-            out,
-        ),
-    }
-}
-
-fn last_scalar(point: &[u32], scale: &[u32], work: &mut [u32], out: &mut [u32]) -> u32 {
-    if scale.len() != 4 || out.len() != 4 {
-        return LENGTHS;
-    }
-    give(
-        split_eq::scalar::last_scalar(point, table::get(scale, 0), work),
-        out,
-    )
-}
-
-fn accumulate_into(
-    point: &[u32],
-    scale: &[u32],
-    given: &[u32],
-    work: &mut [u32],
-    out: &mut [u32],
-) -> u32 {
-    if scale.len() != 4 {
-        return LENGTHS;
-    }
-    let own = table::get(scale, 0);
-    if given.len() != 4 {
-        return LENGTHS;
-    }
-    let other = table::get(given, 0);
-    split_eq::scalar::accumulate_into(point, own, other, work, out).answer()
-}
-
-fn fold(
-    operation: u32,
-    table: &[u32],
-    point: &[u32],
-    scale: &[u32],
-    work: &mut [u32],
-    out: &mut [u32],
-) -> u32 {
-    if scale.len() != 4 {
-        return LENGTHS;
-    }
-    let scale = table::get(scale, 0);
-    match operation {
-        19 => split_eq::fold::compress_prefix(table, point, scale, work, out).answer(),
-        20 => split_eq::fold::compress_suffix(table, point, scale, work, out).answer(),
-        21 => split_eq::fold::compress_prefix_shifted(table, point, scale, work, out).answer(),
-        _ => split_eq::fold::compress_suffix_shifted(table, point, scale, work, out).answer(),
-    }
-}
-
-fn fix(operation: u32, r: &[u32], table: &mut [u32], out: &mut [u32]) -> u32 {
-    if r.len() != 4 || out.len() != 1 {
-        return LENGTHS;
-    }
-    let r = table::get(r, 0);
-    match operation {
-        23 => give_count(fixing::fix_prefix_var_mut(table, r), out),
-        24 => give_count(fixing::fix_suffix_var_mut(table, r), out),
-        _ => give_count(fixing::fix_prefix_var_mut_monomial(table, r), out),
-    }
-}
-
-fn sum(table: &mut [u32], out: &mut [u32]) -> u32 {
-    if out.len() != 1 {
-        return LENGTHS;
-    }
-    give_count(fixing::sum_prefix_var_mut(table), out)
-}
-
-// 0 and the words of the element, or the refusal's number.
-fn give(e: Evaluation, out: &mut [u32]) -> u32 {
-    if out.len() != 4 {
-        return LENGTHS;
-    }
-    match e {
-        Evaluation::Refused(refusal) => refused(refusal),
-        Evaluation::Value(v) => {
-            put(out, 0, v);
-            0
-        }
-    }
-}
-
-// 0 and the words of carry, done and omega, or the refusal's number.
-fn give_next(e: Next, out: &mut [u32]) -> u32 {
-    if out.len() != 12 {
-        return LENGTHS;
-    }
-    match e {
-        Next::Refused(refusal) => refused(refusal),
-        Next::Parts { carry, done, omega } => {
-            put(out, 0, carry);
-            put(out, 1, done);
-            put(out, 2, omega);
-            0
-        }
-    }
-}
-
-// 0 and the count of entries that remain, or the refusal's number.
-fn give_count(remaining: Remaining, out: &mut [u32]) -> u32 {
-    match remaining {
-        Remaining::Refused(refusal) => refused(refusal),
-        Remaining::Entries(n) => {
-            if 0 < out.len() {
-                out[0] = (n % 4294967296) as u32;
+impl Operation {
+    // The words of an answer that is elements or a count; none where out is a table.
+    fn words(self) -> Option<usize> {
+        match self {
+            Operation::EqualityAtVertex | Operation::EvalEq | Operation::EvalSelect => Some(4),
+            Operation::PolyEvalBase | Operation::PolyEvalExt | Operation::PolyEvalNextBase => {
+                Some(4)
             }
-            0
+            Operation::SplitEvalBase | Operation::SplitEvalExt | Operation::SplitEvalNextBase => {
+                Some(4)
+            }
+            Operation::LastScalar => Some(4),
+            Operation::EvalNext => Some(12),
+            Operation::FixPrefixVarMut | Operation::FixSuffixVarMut => Some(1),
+            Operation::FixPrefixVarMutMonomial | Operation::SumPrefixVarMut => Some(1),
+            _ => None,
+        }
+    }
+
+    // The operations with a work buffer or a table that they change.
+    pub fn has_work(self) -> bool {
+        self.is_on_split() || self.is_fixing()
+    }
+
+    fn is_on_split(self) -> bool {
+        match self {
+            Operation::SplitEvalBase | Operation::SplitEvalExt | Operation::SplitEvalNextBase => {
+                true
+            }
+            Operation::LastScalar | Operation::AccumulateInto => true,
+            Operation::CompressPrefix | Operation::CompressSuffix => true,
+            Operation::CompressPrefixShifted | Operation::CompressSuffixShifted => true,
+            _ => false,
+        }
+    }
+
+    // The operations that change the table which they are lent.
+    pub fn is_fixing(self) -> bool {
+        match self {
+            Operation::FixPrefixVarMut | Operation::FixSuffixVarMut => true,
+            Operation::FixPrefixVarMutMonomial | Operation::SumPrefixVarMut => true,
+            _ => false,
         }
     }
 }
 
-fn refused(refusal: Refusal) -> u32 {
-    Verdict::Refused(refusal).answer()
+// What a record hands to its operation: slices that are read, in order, and the vertex, var or n.
+#[derive(Clone, Copy)]
+pub struct Given<'a> {
+    pub a: &'a [u32],
+    pub b: &'a [u32],
+    pub c: &'a [u32],
+    pub number: u32,
 }
 
-// The element's words, where there are so many.
-fn put(out: &mut [u32], i: usize, v: Value) {
-    if i < out.len() / 4 {
-        table::put(
-            out,
-            i,
-            Element {
-                c: [v.c0, v.c1, v.c2, v.c3],
-            },
-        );
+// The answer's number: 0, or the refusal's.
+pub fn call(operation: Operation, given: Given, work: &mut [u32], out: &mut [u32]) -> u32 {
+    table::answer(called(operation, given, work, out))
+}
+
+fn called(
+    operation: Operation,
+    given: Given,
+    work: &mut [u32],
+    out: &mut [u32],
+) -> Result<(), Refusal> {
+    if let Some(words) = operation.words() {
+        table::refuse_if(out.len() != words, Refusal::Lengths)?;
     }
+    if operation.is_on_split() {
+        return on_split(operation, given, work, out);
+    }
+    if operation.is_fixing() {
+        let entries = on_table(operation, given, work)?;
+        return put(out, &[(entries % 4294967296) as u32]);
+    }
+    on_points(operation, given, out)
+}
+
+// The operations on one or two slices.
+fn on_points(operation: Operation, given: Given, out: &mut [u32]) -> Result<(), Refusal> {
+    let Given { a, b, number, .. } = given;
+    match operation {
+        Operation::EqualityAtVertex => {
+            let value = equality::equality_at_vertex(a, number as usize)?;
+            put(out, &value.c)
+        }
+        Operation::EqualityWeightsMsb => equality::equality_weights_msb(a, out),
+        Operation::EqualityWeightsLsb => equality::equality_weights_lsb(a, out),
+        Operation::EvalEq => put(out, &next::eval_eq(a, b)?.c),
+        Operation::EvalNext => {
+            let parts = next::eval_next(a, b)?;
+            put(
+                out,
+                [parts.carry.c, parts.done.c, parts.omega.c].as_flattened(),
+            )
+        }
+        Operation::EvalSelect => put(out, &point::select::eval_select(number, a)?.c),
+        Operation::NewFromPoint => poly::new_from_point(a, element(b)?, out),
+        Operation::NewNextFromPoint => poly::new_next_from_point(a, out),
+        Operation::EvalEqBatch => eq_batch::eval_eq_batch(number as usize, a, b, out),
+        Operation::EvalEqBatchAdd => eq_batch::eval_eq_batch_add(number as usize, a, b, out),
+        Operation::PolyEvalBase => put(out, &poly::value::eval_base(a, b)?.c),
+        Operation::PolyEvalExt => put(out, &poly::value::eval_ext(a, b)?.c),
+        _ => put(out, &poly::value::eval_next_base(a, b)?.c),
+    }
+}
+
+// The operations with work.
+fn on_split(
+    operation: Operation,
+    given: Given,
+    work: &mut [u32],
+    out: &mut [u32],
+) -> Result<(), Refusal> {
+    let Given { a, b, c, .. } = given;
+    match operation {
+        Operation::SplitEvalBase => put(out, &value::eval_base(a, b, element(c)?, work)?.c),
+        Operation::SplitEvalExt => put(out, &value::eval_ext(a, b, element(c)?, work)?.c),
+        Operation::SplitEvalNextBase => {
+            put(out, &value::eval_next_base(a, b, element(c)?, work)?.c)
+        }
+        Operation::LastScalar => put(out, &scalar::last_scalar(a, element(b)?, work)?.c),
+        Operation::AccumulateInto => {
+            scalar::accumulate_into(a, element(b)?, element(c)?, work, out)
+        }
+        Operation::CompressPrefix => fold::compress_prefix(a, b, element(c)?, work, out),
+        Operation::CompressSuffix => fold::compress_suffix(a, b, element(c)?, work, out),
+        Operation::CompressPrefixShifted => {
+            fold::compress_prefix_shifted(a, b, element(c)?, work, out)
+        }
+        _ => fold::compress_suffix_shifted(a, b, element(c)?, work, out),
+    }
+}
+
+// The operations that change a table: the entries that remain.
+fn on_table(operation: Operation, given: Given, table: &mut [u32]) -> Result<usize, Refusal> {
+    match operation {
+        Operation::FixPrefixVarMut => fixing::fix_prefix_var_mut(table, element(given.a)?),
+        Operation::FixSuffixVarMut => fixing::fix_suffix_var_mut(table, element(given.a)?),
+        Operation::FixPrefixVarMutMonomial => {
+            fixing::fix_prefix_var_mut_monomial(table, element(given.a)?)
+        }
+        _ => fixing::sum_prefix_var_mut(table),
+    }
+}
+
+// The element of a scale, given scale or r.
+fn element(words: &[u32]) -> Result<Element, Refusal> {
+    match *words {
+        [c0, c1, c2, c3] => Ok(Element {
+            c: [c0, c1, c2, c3],
+        }),
+        _ => Err(Refusal::Lengths),
+    }
+}
+
+// The words of an answer, where out has as many.
+fn put(out: &mut [u32], words: &[u32]) -> Result<(), Refusal> {
+    table::refuse_if(out.len() != words.len(), Refusal::Lengths)?;
+    out.copy_from_slice(words);
+    Ok(())
 }

@@ -38,15 +38,15 @@ impl Powers {
         requires { RoomEach self × Reduced x × Reduced y }
         ensures { Raised self x y result }
     {
-        let at0 = product::lines_0(x, y, y);
+        let at0 = product::lines::<0>(x, y, y);
         let s0 = self.s0.gain(at0.once);
         let s4 = self.s4.gain(at0.back);
-        let at3 = product::lines_3(x, y, y);
+        let at3 = product::lines::<3>(x, y, y);
         let s3 = self.s3.gain(at3.once);
-        let at2 = product::lines_2(x, y, y);
+        let at2 = product::lines::<2>(x, y, y);
         let s2 = self.s2.gain(at2.once);
         let s6 = self.s6.gain(at2.back);
-        let at1 = product::lines_1(x, y, y);
+        let at1 = product::lines::<1>(x, y, y);
         let s1 = self.s1.gain(at1.once);
         let s5 = self.s5.gain(at1.back);
         Powers {

@@ -1,6 +1,6 @@
 -- The loop of `add_point` at block h: how it starts, steps and ends. Assumes nothing.
 use mathlib.Core.Path.{◌≡◌, sym, ap, ap₂, ◌∙◌}
-use Prim.Native.Nat.{ℕ, ◌+◌, ◌-◌, ◌*◌, ◌^◌, ◌≤◌, ◌<◌}
+use Prim.Native.Nat.{ℕ, ◌+◌, ◌-◌, ◌*◌, ◌^◌, ◌≤◌, ◌<◌, min}
 use native.Mathlib.Nat.{zero-add, zero-mul, suc-mul, mul-le-mul_right}
 use native.Mathlib.Omega.{arith}
 use mathlib.Core.List.{List, ◌++◌}
@@ -24,6 +24,9 @@ pub record Cut (n low rows end : ℕ) : Type 0 where
   pub few : low ≤ n
   pub rows_are : rows ≡ 2 ^ low
   pub end_is : end ≡ 2 ^ (n - low)
+
+pub cut_of : (n m low rows end : ℕ) → low ≡ min n m → rows ≡ 2 ^ low → end ≡ 2 ^ (n - low) → Cut n low rows end
+cut_of n m low rows end a b c = record { few = omega (arith, a); rows_are = b; end_is = c }
 
 module _ {n low rows end : ℕ} (cut : Cut n low rows end) where
   pub joined : n - low + low ≡ n

@@ -6,7 +6,7 @@
 // 2^n products a point, and at most 13 more a block.
 #![tactic(auto)]
 
-ghost use Rattle.std.specs.Prelude.{◌≡◌, true, false, not, ◌&&◌, ◌+◌, ◌*◌, ◌^◌, ◌≤◌, eqb, replicate};
+ghost use Rattle.std.specs.Prelude.{◌≡◌, true, false, not, ◌+◌, ◌*◌, ◌^◌, ◌≤◌, eqb};
 ghost use Rattle.field.specs.Field.{Reduced};
 ghost use Rattle.table.specs.Table.{element_at};
 ghost use Rattle.table.specs.Refusals.{answer, verdict};
@@ -17,64 +17,72 @@ ghost use Rattle.eq_batch.specs.Batch.{batch_tests, batch_answer, batch_at, set_
 ghost use Rattle.eq_batch.specs.Inner.{Elements, Points, Column, Gathered, scaled_at};
 
 use field::Element;
-use table::{Refusal, Verdict};
+use table::Refusal;
 use weigh::BLOCK;
 
 // The most points of a batch.
 pub const MOST_POINTS: usize = 64;
 
 // out becomes the sum.
-pub fn eval_eq_batch(n: usize, points: &[u32], scalars: &[u32], out: &mut [u32]) -> Verdict
+#[tactic(auto, using(table::proofs::Outcomes::outcomes), unfolding(crate::specs::Batch::batch_answer, crate::specs::Batch::set_out))]
+pub fn eval_eq_batch(
+    n: usize,
+    points: &[u32],
+    scalars: &[u32],
+    out: &mut [u32],
+) -> Result<(), Refusal>
     ensures result_value { answer result ≡ batch_answer false n points.now scalars.now out.old }
     ensures out_after { out.new ≡ set_out n points.now scalars.now out.old }
 {
-    if scalars.len() == 0 {
-        return Verdict::Accepted;
+    if scalars.is_empty() {
+        return Ok(());
     }
-    let tested = test_batch(false, n, points, scalars, out);
-    match tested {
-        Verdict::Refused(refusal) => Verdict::Refused(refusal),
-        Verdict::Accepted => {
-            table::clear(out);
-            add_points(n, points, scalars, out);
-            Verdict::Accepted
-        }
-    }
+    test_batch(false, n, points, scalars, out)?;
+    table::clear(out);
+    add_points(n, points, scalars, out);
+    Ok(())
 }
 
 // out gains the sum.
-pub fn eval_eq_batch_add(n: usize, points: &[u32], scalars: &[u32], out: &mut [u32]) -> Verdict
+#[tactic(auto, using(table::proofs::Outcomes::outcomes), unfolding(crate::specs::Batch::batch_answer, crate::specs::Batch::add_out))]
+pub fn eval_eq_batch_add(
+    n: usize,
+    points: &[u32],
+    scalars: &[u32],
+    out: &mut [u32],
+) -> Result<(), Refusal>
     ensures result_value { answer result ≡ batch_answer true n points.now scalars.now out.old }
     ensures out_after { out.new ≡ add_out n points.now scalars.now out.old }
 {
-    if scalars.len() == 0 {
-        return Verdict::Accepted;
+    if scalars.is_empty() {
+        return Ok(());
     }
-    let tested = test_batch(true, n, points, scalars, out);
-    match tested {
-        Verdict::Refused(refusal) => Verdict::Refused(refusal),
-        Verdict::Accepted => {
-            add_points(n, points, scalars, out);
-            Verdict::Accepted
-        }
-    }
+    test_batch(true, n, points, scalars, out)?;
+    add_points(n, points, scalars, out);
+    Ok(())
 }
 
-fn test_batch(adding: bool, n: usize, points: &[u32], scalars: &[u32], out: &[u32]) -> Verdict
+#[tactic(auto, using(table::proofs::Verdicts::tests))]
+fn test_batch(
+    adding: bool,
+    n: usize,
+    points: &[u32],
+    scalars: &[u32],
+    out: &[u32],
+) -> Result<(), Refusal>
     ensures { answer result ≡ verdict (batch_tests adding n points.now scalars.now out.now) }
 {
     let w = scalars.len() / 4;
-    Verdict::Accepted
-        .refuse_if(table::splits(points), Refusal::Split)
-        .refuse_if(table::splits(scalars), Refusal::Split)
-        .refuse_if(table::splits(out), Refusal::Split)
-        .refuse_if(table::MOST < n, Refusal::TooMany)
-        .refuse_if(MOST_POINTS < w, Refusal::TooMany)
-        .refuse_if(is_no_product(points.len() / 4, n, w), Refusal::Lengths)
-        .refuse_if(table::rows_differ(out, n), Refusal::Lengths)
-        .refuse_if(field::unreduced(points), Refusal::Unreduced)
-        .refuse_if(field::unreduced(scalars), Refusal::Unreduced)
-        .refuse_if(both(adding, field::unreduced(out)), Refusal::Unreduced)
+    table::refuse_if(table::splits(points), Refusal::Split)?;
+    table::refuse_if(table::splits(scalars), Refusal::Split)?;
+    table::refuse_if(table::splits(out), Refusal::Split)?;
+    table::refuse_if(table::MOST < n, Refusal::TooMany)?;
+    table::refuse_if(MOST_POINTS < w, Refusal::TooMany)?;
+    table::refuse_if(is_no_product(points.len() / 4, n, w), Refusal::Lengths)?;
+    table::refuse_if(table::rows_differ(out, n), Refusal::Lengths)?;
+    table::refuse_if(field::unreduced(points), Refusal::Unreduced)?;
+    table::refuse_if(field::unreduced(scalars), Refusal::Unreduced)?;
+    table::refuse_if(adding && field::unreduced(out), Refusal::Unreduced)
 }
 
 // count is not n w. The product is not formed: it may not fit.
@@ -88,12 +96,6 @@ fn is_no_product(count: usize, n: usize, w: usize) -> bool
         return true;
     }
     count / w != n
-}
-
-fn both(a: bool, b: bool) -> bool
-    ensures { result ≡ a && b }
-{
-    if a { b } else { false }
 }
 
 // out gains the sum over the points.
@@ -114,18 +116,11 @@ fn gather(points: &[u32], n: usize, w: usize, j: usize) -> [u32; 80]
     requires { Column n w j points.now }
     ensures { Gathered n w j points.now result }
 {
-    let mut point = room();
+    let mut point = [0u32; 80];
     for i in 0..n {
         table::put(&mut point, i, table::read(points, i * w + j));
     }
     point
-}
-
-// Elements for 20 coordinates.
-fn room() -> [u32; 80]
-    ensures { result ≡ replicate 80 0 }
-{
-    [0u32; 80]
 }
 
 // out gains scale eq of the point of n coordinates, block by block: a block for each row of the first coordinates.

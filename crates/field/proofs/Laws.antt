@@ -10,7 +10,7 @@ use Rattle.algebra.proofs.Words.{below, words_reduced}
 use Rattle.algebra.proofs.Numbers.{numbers_again, numbers_add, numbers_sub, numbers_neg, numbers_scale, numbers_mul}
 use Rattle.field.specs.declared.Element.{Element}
 use Rattle.field.specs.Product.{once_at, back_at}
-use Rattle.field.specs.Field.{p, p_pos, factor, Ext, field, base, to_words, from_words, at, Reduced, Holds}
+use Rattle.field.specs.Field.{p, p_pos, factor, Ext, field, base, to_words, from_words, at, Reduced, Holds, ByWord}
 
 pub field_ring : CommRing field
 unfolding field
@@ -62,6 +62,10 @@ holds_again e l h = record { words = words_again e l h; below = h }
 abbrev pub words : ℕ → ℕ → ℕ → ℕ → Element
 words a0 a1 a2 a3 = record { c = a0 ∷ a1 ∷ a2 ∷ a3 ∷ [] }
 
+-- an array of four words
+pub joined : {e : Element} {a0 a1 a2 a3 : ℕ} → length e.c ≡ 4 → at e 0 ≡ a0 → at e 1 ≡ a1 → at e 2 ≡ a2 → at e 3 ≡ a3 → e ≡ words a0 a1 a2 a3
+joined {e} l e0 e1 e2 e3 = (λ i. record { c = four e.c l i }) ∙ rw (e0, e1, e2, e3) refl
+
 -- four words of an element are it, and below p
 pub four_words_lem : (x : Ext) {a0 a1 a2 a3 : ℕ} → a0 ≡ at (to_words x) 0 → a1 ≡ at (to_words x) 1 → a2 ≡ at (to_words x) 2 → a3 ≡ at (to_words x) 3
     → Holds (words a0 a1 a2 a3) x
@@ -105,6 +109,13 @@ module _ (x : Element) where
   unfolding field base to_words words_of from_words numbers reduce
   scale_law w = ap to_words (numbers_scale p p_pos factor (at x 0) (at x 1) (at x 2) (at x 3) w 0 0 0)
 
+  -- where a word of r is known by those of x, so is r
+  pub negated : {r : Element} → length r.c ≡ 4 → ByWord (λ i w. w ≡ (p - at x i % p) % p) r → Holds r (field.neg (from_words x))
+  negated l b = holds _ (joined l b.each.0 b.each.1 b.each.2 b.each.3 ∙ neg_law)
+
+  pub scaled : (w : ℕ) {r : Element} → length r.c ≡ 4 → ByWord (λ i v. v ≡ at x i * w % p) r → Holds r (field.mul (from_words x) (base w))
+  scaled w l b = holds _ (joined l b.each.0 b.each.1 b.each.2 b.each.3 ∙ scale_law w)
+
 module _ (x y : Element) where
   pub add_law : words ((at x 0 + at y 0) % p) ((at x 1 + at y 1) % p) ((at x 2 + at y 2) % p) ((at x 3 + at y 3) % p)
       ≡ to_words (field.add (from_words x) (from_words y))
@@ -116,6 +127,14 @@ module _ (x y : Element) where
       ≡ to_words (minus field (from_words x) (from_words y))
   unfolding field to_words words_of from_words numbers reduce
   sub_law = ap to_words (numbers_sub p p_pos factor (at x 0) (at x 1) (at x 2) (at x 3) (at y 0) (at y 1) (at y 2) (at y 3))
+
+  -- where a word of r is known by those of x and y, so is r
+  pub added : {r : Element} → length r.c ≡ 4 → ByWord (λ i w. w ≡ (at x i + at y i) % p) r → Holds r (field.add (from_words x) (from_words y))
+  added l b = holds _ (joined l b.each.0 b.each.1 b.each.2 b.each.3 ∙ add_law)
+
+  pub subtracted : {r : Element} → length r.c ≡ 4 → ByWord (λ i w. w ≡ (at x i + (p - at y i % p)) % p) r
+      → Holds r (minus field (from_words x) (from_words y))
+  subtracted l b = holds _ (joined l b.each.0 b.each.1 b.each.2 b.each.3 ∙ sub_law)
 
   -- a coordinate of the product, by the sums of the lines that give it
   abbrev coordinate : ℕ → ℕ

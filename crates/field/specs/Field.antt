@@ -49,6 +49,10 @@ pub record Holds (e : Element) (x : Ext) : Type 0 where
   pub words : e ≡ to_words x
   pub below : Reduced e
 
+-- R holds at each place of e's word there
+pub record ByWord (R : ℕ → ℕ → Type 0) (e : Element) : Type 0 where
+  pub each : R 0 (at e 0) × R 1 (at e 1) × R 2 (at e 2) × R 3 (at e 3)
+
 -- an element as an answer holds it
 unfoldable pub value_of : Element → Value
 value_of e = record { c0 = at e 0; c1 = at e 1; c2 = at e 2; c3 = at e 3 }

@@ -6,21 +6,24 @@
 #![tactic(auto)]
 
 pub mod product;
+pub mod sums;
 pub mod word;
 
-ghost use Rattle.std.specs.Prelude.{◌≡◌, ◌<◌, ◌||◌, nat_le};
+ghost use Rattle.std.specs.Prelude.{◌≡◌, ◌<◌, ◌||◌, nat_le, slice_index};
 ghost use Rattle.algebra.specs.Ring.{Ops, minus};
 ghost use Rattle.algebra.specs.Words.{unreduced};
-ghost use Rattle.field.specs.Field.{p, Reduced, field, base, from_words, value_of, Holds};
+ghost use Rattle.field.specs.Field.{p, Reduced, field, base, at, from_words, value_of, Holds, ByWord};
+
+use std::fmt;
 
 // Words below the modulus, the coordinate of 1 first.
-#[derive(Clone, Copy)]
+#[derive(Clone, Copy, Debug, PartialEq, Eq)]
 pub struct Element {
     pub c: [u32; 4],
 }
 
 // An element as an answer holds it: an enum holds no array.
-#[derive(Clone, Copy)]
+#[derive(Clone, Copy, Debug, PartialEq, Eq)]
 pub struct Value {
     pub c0: u32,
     pub c1: u32,
@@ -34,12 +37,14 @@ impl Element {
     // X^4.
     pub const FACTOR: u32 = 11;
 
+    #[tactic(auto, using(crate::proofs::Laws::holds, crate::proofs::Laws::zero_law))]
     pub fn zero() -> Self
         ensures { Holds result field.zero }
     {
         Element { c: [0, 0, 0, 0] }
     }
 
+    #[tactic(auto, using(crate::proofs::Laws::holds, crate::proofs::Laws::one_law))]
     pub fn one() -> Self
         ensures { Holds result field.one }
     {
@@ -54,46 +59,28 @@ impl Element {
         Element { c: [word, 0, 0, 0] }
     }
 
+    #[tactic(auto, using(crate::proofs::Laws::word_below))]
     pub fn add(self, other: Element) -> Self
         requires { Reduced self × Reduced other }
         ensures { Holds result (field.add (from_words self) (from_words other)) }
     {
-        Element {
-            c: [
-                word::add(self.c[0], other.c[0]),
-                word::add(self.c[1], other.c[1]),
-                word::add(self.c[2], other.c[2]),
-                word::add(self.c[3], other.c[3]),
-            ],
-        }
+        self.zip_with(other, |a, b| word::add(a, b))
     }
 
+    #[tactic(auto, using(crate::proofs::Laws::word_below))]
     pub fn sub(self, other: Element) -> Self
         requires { Reduced self × Reduced other }
         ensures { Holds result (minus field (from_words self) (from_words other)) }
     {
-        Element {
-            c: [
-                word::sub(self.c[0], other.c[0]),
-                word::sub(self.c[1], other.c[1]),
-                word::sub(self.c[2], other.c[2]),
-                word::sub(self.c[3], other.c[3]),
-            ],
-        }
+        self.zip_with(other, |a, b| word::sub(a, b))
     }
 
+    #[tactic(auto, using(crate::proofs::Laws::word_below))]
     pub fn neg(self) -> Self
         requires { Reduced self }
         ensures { Holds result (field.neg (from_words self)) }
     {
-        Element {
-            c: [
-                word::neg(self.c[0]),
-                word::neg(self.c[1]),
-                word::neg(self.c[2]),
-                word::neg(self.c[3]),
-            ],
-        }
+        self.map(|a| word::neg(a))
     }
 
     pub fn double(self) -> Self
@@ -110,29 +97,57 @@ impl Element {
     {
         Element {
             c: [
-                product::lines_0(self, other, other).coordinate(),
-                product::lines_1(self, other, other).coordinate(),
-                product::lines_2(self, other, other).coordinate(),
-                product::lines_3(self, other, other).coordinate(),
+                product::lines::<0>(self, other, other).coordinate(),
+                product::lines::<1>(self, other, other).coordinate(),
+                product::lines::<2>(self, other, other).coordinate(),
+                product::lines::<3>(self, other, other).coordinate(),
             ],
         }
     }
 
     // The product with a base word, by four divisions.
+    #[tactic(auto, using(crate::proofs::Laws::word_below))]
     pub fn mul_base(self, word: u32) -> Self
         requires { Reduced self × (word < p) }
         ensures { Holds result (field.mul (from_words self) (base word)) }
     {
+        self.map(|a| word::mul(a, word))
+    }
+
+    // f's answer at each word.
+    pub fn map<F: Fn(u32) -> u32>(self, f: F) -> Self
+        requires below { Reduced self }
+        requires callable { (w : _) → w < p → F.pre f w }
+        ensures { ByWord (λ i w. F.post f (at self i) w) result }
+    {
         Element {
-            c: [
-                word::mul(self.c[0], word),
-                word::mul(self.c[1], word),
-                word::mul(self.c[2], word),
-                word::mul(self.c[3], word),
-            ],
+            c: std::array::from_fn(
+                |i|
+                    requires { (i < 4) × F.pre f (slice_index self.c i) }
+                    ensures { F.post f (slice_index self.c i) result }
+                { f(self.c[i]) },
+            ),
         }
     }
 
+    // f's answer at each pair of words.
+    #[tactic(auto, using(crate::proofs::Mapping::serves_index, crate::proofs::Laws::word_below))]
+    fn zip_with<F: Fn(u32, u32) -> u32>(self, other: Element, f: F) -> Self
+        requires below { Reduced self × Reduced other }
+        requires callable { (v w : _) → v < p → w < p → F.pre f v w }
+        ensures { ByWord (λ i w. F.post f (at self i) (at other i) w) result }
+    {
+        Element {
+            c: std::array::from_fn(
+                |i|
+                    requires { (i < 4) × F.pre f (slice_index self.c i) (slice_index other.c i) }
+                    ensures { F.post f (slice_index self.c i) (slice_index other.c i) result }
+                { f(self.c[i], other.c[i]) },
+            ),
+        }
+    }
+
+    #[tactic(auto, unfolding(crate::specs::Field::value_of))]
     pub fn value(self) -> Value
         ensures { result ≡ value_of self }
     {
@@ -145,20 +160,37 @@ impl Element {
     }
 }
 
+// The words of an element, that of 1 first; they are to be below the modulus.
+impl From<[u32; 4]> for Element {
+    ghost from_gives = { λ words e. e.c ≡ words };
+
+    fn from(words: [u32; 4]) -> Element {
+        Element { c: words }
+    }
+}
+
+// The word of 1 alone where the others are 0, and else all four with a blank between.
+impl fmt::Display for Element {
+    fn fmt<W: fmt::Write>(&self, f: &mut fmt::Formatter<W>) -> fmt::Result {
+        let [c0, c1, c2, c3] = self.c;
+        if c1 == 0 && c2 == 0 && c3 == 0 {
+            write!(f, "{c0}")
+        } else {
+            write!(f, "{c0} {c1} {c2} {c3}")
+        }
+    }
+}
+
 // Refusal 5's test: a word of ws is not below the modulus. It reads on after such a word, so that the loop has one way through it.
 pub fn unreduced(ws: &[u32]) -> bool
     ensures { result ≡ unreduced p ws.now }
 {
-    let mut found = false;
-    for i in 0..ws.len() {
-        found = or_above(found, ws[i]);
-    }
-    found
+    ws.iter().fold(false, |found, w| or_above(found, *w))
 }
 
-// What was found, or that w is not below the modulus.
+// What was found, or that w is not below the modulus; the test of words in bytes (`ward`) takes it too.
 pub fn or_above(found: bool, w: u32) -> bool
     ensures { result ≡ found || nat_le p w }
 {
-    if found { true } else { Element::MODULUS <= w }
+    found | (Element::MODULUS <= w)
 }

@@ -18,22 +18,26 @@ pub fn add(a: u32, b: u32) -> u32
     requires { (a < p) × (b < p) }
     ensures { result ≡ (a + b) % p }
 {
-    let s = std::num::wrapping_sub_u32(a + b, Element::MODULUS);
-    if s < SIGN {
-        s
-    } else {
-        std::num::wrapping_add_u32(s, Element::MODULUS)
-    }
+    less(a + b, Element::MODULUS)
 }
 
 pub fn sub(a: u32, b: u32) -> u32
     requires { (a < p) × (b < p) }
     ensures { result ≡ (a + (p - b % p)) % p }
 {
-    if b <= a {
-        a - b
+    less(a, b)
+}
+
+// a - b modulo p, where the difference is at least -p and below p.
+pub fn less(a: u32, b: u32) -> u32
+    requires { (a < b + p) × (b ≤ a + p) }
+    ensures { (result < p) × ((result + b) % p ≡ a % p) }
+{
+    let s = std::num::wrapping_sub_u32(a, b);
+    if s < SIGN {
+        s
     } else {
-        a + (Element::MODULUS - b)
+        std::num::wrapping_add_u32(s, Element::MODULUS)
     }
 }
 

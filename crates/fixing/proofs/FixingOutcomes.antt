@@ -1,29 +1,18 @@
 -- What tests that do not hold say of a table, and answer and out of a sum, by the verdict on its tests. Assumes nothing.
-use mathlib.Core.Path.{◌≡◌, refl, sym, ◌∙◌}
-use mathlib.Core.Logic.{◌≢◌}
-use mathlib.Core.Bool.{Bool, true, false, cond}
-use Prim.Native.Nat.{ℕ, zero, suc, ◌*◌, ◌/◌, ◌^◌, ◌<◌}
+use Rattle.std.proofs.Common.{◌≡◌, ◌≢◌, ℕ, zero, suc, ◌*◌, ◌/◌, ◌^◌, ◌<◌, false, List, [], ◌∷◌, eqb, length, arith}
 use native.Mathlib.Nat.{pow-suc}
-use native.Mathlib.Omega.{arith}
-use mathlib.Core.List.{List, [], ◌∷◌}
-use lib.Dec.{eqb}
-use lib.ListN.{length}
 use borrow.Author.Tests.{eqb-false, eq-eqb, ne_eqb}
-use Rattle.algebra.specs.Words.{unreduced}
-use Rattle.field.specs.Field.{p, field}
+use Rattle.std.specs.Prelude.{Ok, Err}
+use Rattle.field.specs.Field.{field}
 use Rattle.table.specs.Table.{entries}
-use Rattle.table.specs.Refusals.{answer, Outcome, Test, ◌gives◌, verdict, leaves, given, splits, not_power}
+use Rattle.table.specs.Refusals.{number, given, verdict, splits, not_power}
 use Rattle.table.specs.declared.Refusal.{Refusal}
-use Rattle.table.specs.declared.Verdict.{Verdict}
-use Rattle.table.specs.declared.Verdict.TheVariants.{Refused}
-use Rattle.table.proofs.Answers.{kept}
-use Rattle.table.proofs.Fronts.{front_refused, front_accepted}
+use Rattle.table.proofs.Fronts.{front_refused, front_passed}
+use Rattle.table.proofs.Outcomes.{refused_leaves, refused_given, accepted_leaves, accepted_given}
 use Rattle.table.proofs.Tests.{whole}
 use Rattle.table.proofs.Powers.{power_of}
-use Rattle.fixing.specs.declared.Rule.TheVariants.{Sum}
-use Rattle.fixing.specs.declared.Remaining.TheVariants as remaining
-use Rattle.fixing.specs.Fixing.{sum_tests, fixed_table, remaining_outcome, sum_answer, sum_out}
-use Rattle.fixing.specs.Inner.{size_tests, Sized, unless_unreduced, TwoHalves}
+use Rattle.fixing.specs.Fixing.{Sum, sum_tests, fixed_table, remaining_outcome, sum_answer, sum_out}
+use Rattle.fixing.specs.Inner.{size_tests, word_tests, TwoHalves}
 
 -- a power of two but 1 is even
 even : (n v : ℕ) → n ≡ 2 ^ v → n ≢ 1 → n ≡ 2 * (n / 2)
@@ -39,43 +28,60 @@ two_halves ws b s n h =
     even (entries ws) _ (power_of (entries ws) (omega arith) n) (eqb-false (entries ws) 1 h) in
     record { few = omega arith; count = omega arith }
 
--- answer and out of a sum, at once
+-- the answer by the verdict n on the tests
+pub refused_count : (n : ℕ) (r : Refusal) → number r ≡ n → (ws : List ℕ) → remaining_outcome (Err r) ≡ given n ws
+refused_count n r h ws = refused_given n r h ws
+
+pub accepted_count : (n : ℕ) → 0 ≡ n → (count : ℕ) → remaining_outcome (Ok count) ≡ given n (count ∷ [])
+accepted_count n h count = accepted_given n h (count ∷ [])
+
+pub ruleset counts = (refused_count, accepted_count, refused_leaves, accepted_leaves)
+
+-- answer and out of a sum
 module _ (ws : List ℕ) where
-  abbrev Summed : Outcome → List ℕ → Type 0
-  Summed x w = (x ≡ sum_answer ws) × (w ≡ sum_out ws)
+  -- by the verdict on 1, 2, 3 and by that on 5
+  pub by_sizes : (r : Refusal) → number r ≡ verdict (size_tests ws) → number r ≡ verdict (sum_tests ws)
+  by_sizes r h = front_refused (size_tests ws) (word_tests ws) tt r h
 
-  -- 5, the last of the sum's tests
-  abbrev last : List Test
-  last = unreduced p ws gives 5 ∷ []
+  pub by_words : 0 ≡ verdict (size_tests ws) → {n : ℕ} → n ≡ verdict (word_tests ws) → n ≡ verdict (sum_tests ws)
+  by_words s h = front_passed (size_tests ws) (word_tests ws) tt s h
 
-  pub sum_refused : {x : Refusal} {t : Verdict} → t ≡ Refused x → answer t ≡ verdict (size_tests ws)
-      → Summed (remaining_outcome (remaining.Refused x)) ws
-  unfolding sum_answer sum_out
-  sum_refused e h = rw (← front_refused (size_tests ws) last tt e h, kept, kept) (refl, refl)
+  -- refused
+  pub sum_answer_refused : (r : Refusal) → number r ≡ verdict (sum_tests ws) → remaining_outcome (Err r) ≡ sum_answer ws
+  unfolding sum_answer
+  sum_answer_refused r h = refused_given _ r h _
 
-  -- the sizes are right: 5 decides
-  module _ (s : Sized ws) where
-    number_is : cond (unreduced p ws) 5 0 ≡ verdict (sum_tests ws)
-    unfolding verdict
-    number_is = front_accepted (size_tests ws) last tt s.accepted
+  pub sum_out_refused : (r : Refusal) → number r ≡ verdict (sum_tests ws) → sum_out ws ≡ ws
+  unfolding sum_out
+  sum_out_refused r h = refused_leaves _ r h _ _
 
-    decided : (n : ℕ) (new : List ℕ) {x : Outcome} {w : List ℕ} → x ≡ unless_unreduced (unreduced p ws) n → w ≡ cond (unreduced p ws) ws new
-        → (x ≡ given (verdict (sum_tests ws)) (n ∷ [])) × (w ≡ leaves (verdict (sum_tests ws)) new ws)
-    decided n new e q = rw (← number_is) (e, q ∙ left (unreduced p ws))
-      where
-        left : (b : Bool) → cond b ws new ≡ leaves (cond b 5 0) new ws
-        left true = refl
-        left false = refl
+  -- accepted, of a constant and of a table of a variable or more
+  module _ (h : 0 ≡ verdict (sum_tests ws)) where
+    pub sum_answer_constant : entries ws ≡ 1 → remaining_outcome (Ok 1) ≡ sum_answer ws
+    unfolding sum_answer
+    sum_answer_constant q = rw (eq-eqb (entries ws) 1 q) (accepted_given _ h _)
 
-    pub sum_constant : entries ws ≡ 1 → {x : Outcome} → x ≡ unless_unreduced (unreduced p ws) 1 → Summed x ws
-    unfolding sum_answer sum_out
-    sum_constant q e = rw (eq-eqb (entries ws) 1 q) (decided 1 ws e (sym (same (unreduced p ws))))
-      where
-        same : (b : Bool) → cond b ws ws ≡ ws
-        same true = refl
-        same false = refl
+    pub sum_out_constant : entries ws ≡ 1 → sum_out ws ≡ ws
+    unfolding sum_out
+    sum_out_constant q = rw (eq-eqb (entries ws) 1 q) (accepted_leaves _ h _ _)
 
-    pub summed : entries ws ≢ 1 → {x : Outcome} {w : List ℕ} → x ≡ unless_unreduced (unreduced p ws) (entries ws / 2)
-        → w ≡ cond (unreduced p ws) ws (fixed_table Sum ws field.zero) → Summed x w
-    unfolding sum_answer sum_out
-    summed h e q = rw (ne_eqb (entries ws) 1 h) (decided (entries ws / 2) (fixed_table Sum ws field.zero) e q)
+    pub sum_answer_summed : entries ws ≢ 1 → remaining_outcome (Ok (entries ws / 2)) ≡ sum_answer ws
+    unfolding sum_answer
+    sum_answer_summed q = rw (ne_eqb (entries ws) 1 q) (accepted_given _ h _)
+
+    pub sum_out_summed : entries ws ≢ 1 → sum_out ws ≡ fixed_table Sum ws field.zero
+    unfolding sum_out
+    sum_out_summed q = rw (ne_eqb (entries ws) 1 q) (accepted_leaves _ h _ _)
+
+pub ruleset sums = (
+  by_sizes,
+  by_words,
+  sum_answer_refused,
+  sum_out_refused,
+  sum_answer_constant,
+  sum_out_constant,
+  sum_answer_summed,
+  sum_out_summed,
+  refused_leaves,
+  accepted_leaves,
+)

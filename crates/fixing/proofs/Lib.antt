@@ -1,4 +1,5 @@
 mod Making
+mod Combining
 mod Halving
 mod Summing
 mod FixingOutcomes

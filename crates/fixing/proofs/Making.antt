@@ -7,15 +7,12 @@ use mathlib.Core.List.{List, ◌++◌}
 use lib.Dec.{ltb}
 use lib.ListN.{length, drop}
 use lib.Seq.{drop-drop}
-use borrow.Author.Count.{below_more}
 use borrow.Author.Tests.{ltb-true, ltb-false}
-use Rattle.field.specs.Field.{Ext, to_words, from_words, Reduced, Holds}
-use Rattle.field.specs.declared.Element.{Element}
-use Rattle.field.proofs.Laws.{size}
-use Rattle.table.specs.Table.{get_at, put_at, element_at, table_words}
-use Rattle.table.proofs.Laws.{length_put, drop_put, get_put_other, get_put_same, table_of}
+use Rattle.field.specs.Field.{Ext, to_words}
+use Rattle.table.specs.Table.{get_at, table_words}
+use Rattle.table.proofs.Laws.{table_of}
 use Rattle.table.proofs.Parts.{get_drop}
-use Rattle.fixing.specs.Inner.{Pairs, Made, paired}
+use Rattle.fixing.specs.Inner.{Made}
 
 pub none : (g : ℕ → Ext) (from : ℕ) (ws : List ℕ) → Made g from from ws ws
 none g from ws = record { len = refl; before = λ y l. refl; done = λ y b l. absurd (omega arith); after = refl }
@@ -31,24 +28,6 @@ module _ {g : ℕ → Ext} {from i : ℕ} {ws w : List ℕ} (d : Made g from i w
   later y l =
       let q : y ≡ i + (y - i) = omega arith in
       rw q (sym (get_drop i (y - i) w) ∙ ap (λ zs. get_at zs (y - i)) d.after ∙ get_drop i (y - i) ws)
-
-  module _ (l : from ≤ i) (m : 4 * i + 3 < length ws) where
-    step : Made g from (i + 1) ws (put_at w i (to_words (g i)))
-    step =
-        record {
-          len = length_put w i (to_words (g i)) ∙ d.len;
-          before = λ y b. get_put_other w i (to_words (g i)) y (λ q. omega arith) ∙ d.before y b;
-          done = below_more (λ y. from ≤ y → get_at (put_at w i (to_words (g i))) y ≡ to_words (g y)) i
-              (λ y b k. get_put_other w i (to_words (g i)) y (λ q. omega arith) ∙ d.done y b k)
-              (λ k. get_put_same w i (to_words (g i)) (omega (arith, d.len)) (size (g i)));
-          after = drop_put w i (to_words (g i)) (4 * (i + 1)) (omega arith) ∙ words_later (i + 1) (omega arith);
-        }
-
-    -- of the values that the calls of a turn give: entry i is made of two that stand at or past it
-    pub turn : (f : Ext → Ext → Ext) (j₀ j₁ : ℕ) → i ≤ j₀ → i ≤ j₁ → f (element_at ws j₀) (element_at ws j₁) ≡ g i
-        → {a₀ a₁ e : Element} {w₁ : List ℕ} → a₀ ≡ get_at w j₀ → a₁ ≡ get_at w j₁ → Holds e (f (from_words a₀) (from_words a₁))
-        → w₁ ≡ put_at w i e → Made g from (i + 1) ws w₁
-    turn f j₀ j₁ l₀ l₁ q g₀ g₁ h e = rw (e, h.words, g₀, g₁, later j₀ l₀, later j₁ l₁, q) step
 
 -- entries from..mid made, and then mid..to
 module _ {g : ℕ → Ext} {from mid : ℕ} {ws w : List ℕ} (d : Made g from mid ws w) where
@@ -70,30 +49,3 @@ module _ {g : ℕ → Ext} {from mid : ℕ} {ws w : List ℕ} (d : Made g from m
 pub made_table : (n : ℕ) (g : ℕ → Ext) (ws w : List ℕ) → Made g 0 n ws w → 4 * n ≤ length ws → w ≡ table_words n g ++ drop (4 * n) ws
 made_table n g ws w d l =
     table_of n g w (omega (arith, d.len)) (λ y b. d.done y b (omega arith)) ∙ ap (λ zs. table_words n g ++ zs) d.after
-
--- a loop over the entries from..to of both halves, at entry i
-pub record Pairing (f : Ext → Ext → Ext) (h from to i : ℕ) (ws w : List ℕ) : Type 0 where
-  pub started : from ≤ i
-  pub within : i ≤ to
-  pub made : Made (paired f h ws) from i ws w
-
-pub start_pairs : (f : Ext → Ext → Ext) (h from to : ℕ) (ws : List ℕ) → Pairs h from to ws → Pairing f h from to from ws ws
-start_pairs f h from to ws t = record { started = omega arith; within = t.ordered; made = none _ from ws }
-
-module _ {f : Ext → Ext → Ext} {h from to i : ℕ} {ws w : List ℕ} (t : Pairs h from to ws) (d : Pairing f h from to i ws w) where
-  -- of the values that the calls of a turn give
-  module _ (m : i < to) {a₀ a₁ : Element} (g₀ : a₀ ≡ get_at w i) (g₁ : a₁ ≡ get_at w (h + i)) where
-    pub read_pair : Reduced a₀ × Reduced a₁
-    read_pair = rw (g₀, g₁, later d.made i (omega arith), later d.made (h + i) (omega arith)) (t.below i d.started m)
-
-    pub turn_pair : {e : Element} {w₁ : List ℕ} → Holds e (f (from_words a₀) (from_words a₁)) → w₁ ≡ put_at w i e
-        → Pairing f h from to (i + 1) ws w₁
-    turn_pair e q =
-        record {
-          started = omega arith;
-          within = omega arith;
-          made = turn d.made d.started (omega arith) f i (h + i) (omega arith) (omega arith) refl g₀ g₁ e q;
-        }
-
-  pub finish_pairs : to ≤ i → Made (paired f h ws) from to ws w
-  finish_pairs l = let q : i ≡ to = omega arith in rw q at d.made

@@ -1,6 +1,6 @@
 -- The sums of two halves made part by part, each after its test, and taken back where a part is refused. Assumes nothing.
 use mathlib.Core.Path.{◌≡◌, refl, sym, ap, ap₂, ◌∙◌}
-use mathlib.Core.Bool.{Bool, true, false, ◌||◌, cond}
+use mathlib.Core.Bool.{Bool, true, false, ◌||◌}
 use Prim.Native.Nat.{ℕ, ◌+◌, ◌-◌, ◌*◌, ◌≤◌, ◌<◌}
 use native.Mathlib.Nat.{zero-add}
 use native.Mathlib.Omega.{arith}
@@ -14,11 +14,12 @@ use Rattle.algebra.proofs.Reading.{reading, ring}
 use Rattle.field.specs.Field.{p, Ext, field, to_words, from_words, Reduced}
 use Rattle.field.proofs.Laws.{field_ring, reduced, read_back, words_again}
 use Rattle.table.specs.Table.{get_at, element_at}
+use Rattle.table.specs.Refusals.{verdict, leaves}
 use Rattle.table.proofs.Laws.{get_size}
 use Rattle.table.proofs.Parts.{get_lent, part_below}
 use Rattle.table.proofs.Tests.{reduced_at, or_none}
-use Rattle.fixing.specs.declared.Rule.TheVariants.{Sum}
-use Rattle.fixing.specs.Inner.{TwoHalves, Pairs, Made, part, paired, halved}
+use Rattle.fixing.specs.Fixing.{Sum}
+use Rattle.fixing.specs.Inner.{TwoHalves, word_tests, Pairs, Made, part, paired, halved}
 use Rattle.fixing.proofs.Making.{none, words_later, later, made_more, made_table}
 
 -- the test over the parts of a list
@@ -60,8 +61,8 @@ abbrev pub next : (h at n : ℕ) → List ℕ → Bool
 next h at n ws = unreduced p (part at n ws) || unreduced p (part (h + at) n ws)
 
 -- what sum_halves says and leaves
-abbrev pub Answered : ℕ → List ℕ → Bool → List ℕ → Type 0
-Answered h ws x w = (x ≡ unreduced p ws) × (w ≡ cond (unreduced p ws) ws (halved Sum h ws field.zero))
+abbrev pub Answered : ℕ → List ℕ → ℕ → List ℕ → Type 0
+Answered h ws n w = (n ≡ verdict (word_tests ws)) × (w ≡ leaves (verdict (word_tests ws)) (halved Sum h ws field.zero) ws)
 
 module _ {h at : ℕ} {ws w : List ℕ} (t : TwoHalves h ws) (d : Summing h at ws w) where
   table_then : TwoHalves h w
@@ -144,10 +145,12 @@ module _ {h at : ℕ} {ws w : List ℕ} (t : TwoHalves h ws) (d : Summing h at w
       (record { len = refl; before = λ y b. refl; done = λ y b l. was y b; after = refl })
       (omega arith))
 
-  pub refused : (n : ℕ) → at + n ≤ h → next h at n w ≡ true → {w₁ : List ℕ} → Made (paired (minus field) h w) 0 at w w₁ → Answered h ws true w₁
+  pub refused : (n : ℕ) → at + n ≤ h → next h at n w ≡ true → {w₁ : List ℕ} → Made (paired (minus field) h w) 0 at w w₁ → Answered h ws 5 w₁
+  unfolding verdict
   refused n b e m = rw (found n b e) (refl, taken_back m)
 
-  pub finish : at ≡ h → Answered h ws false w
+  pub finish : at ≡ h → Answered h ws 0 w
+  unfolding verdict
   finish q =
       let u : unreduced p (part 0 (h + h) ws) ≡ false =
       parts_joined ws 0 h h (rw q at d.first) (rw zero-add (rw q at d.second)) in

@@ -1,15 +1,19 @@
 -- Fixing a variable of a table (document 01, "Beside these"; "Refused calls": Fixing). Assumes nothing.
-use Rattle.std.specs.Prelude.{ℕ, ◌+◌, ◌*◌, ◌/◌, cond, List, [], ◌∷◌, ◌++◌, eqb, drop}
+use Rattle.std.specs.Prelude.{ℕ, ◌+◌, ◌*◌, ◌/◌, cond, List, [], ◌∷◌, ◌++◌, eqb, drop, Result, Ok, Err}
 use Rattle.algebra.specs.Words.{unreduced}
 use Rattle.multilinear.specs.Beside.{line}
 use Rattle.field.specs.Field.{p, Ext, field, from_words}
 use Rattle.field.specs.declared.Element.{Element}
 use Rattle.table.specs.Table.{table_words, entries, element_at}
 use Rattle.table.specs.Refusals.{number, Outcome, alone, Test, ◌gives◌, verdict, leaves, given, splits, not_power, too_many_variables}
-use Rattle.fixing.specs.declared.Rule.{Rule}
-use Rattle.fixing.specs.declared.Rule.TheVariants.{Prefix, Suffix, Sum, Monomial}
-use Rattle.fixing.specs.declared.Remaining.{Remaining}
-use Rattle.fixing.specs.declared.Remaining.TheVariants as remaining
+use Rattle.table.specs.declared.Refusal.{Refusal}
+
+-- which two entries become one, and how
+pub data Rule : Type 0 where
+  Prefix : Rule
+  Suffix : Rule
+  Sum : Rule
+  Monomial : Rule
 
 -- entry i of what remains of the table t of 2h entries:
 --   prefix    a0 + (a1 - a0)·r over the two halves
@@ -47,10 +51,10 @@ fix_tests ws r =
     ∷ eqb (entries ws) 1 gives 6
     ∷ []
 
--- number and words of a `Remaining`: the count of entries that remain
-abbrev pub remaining_outcome : Remaining → Outcome
-remaining_outcome (remaining.Entries n) = record { number = 0; words = n ∷ [] }
-remaining_outcome (remaining.Refused r) = alone (number r)
+-- number and words of an answer: the count of entries that remain, or the refusal
+abbrev pub remaining_outcome : Result ℕ Refusal → Outcome
+remaining_outcome (Ok n) = record { number = 0; words = n ∷ [] }
+remaining_outcome (Err r) = alone (number r)
 
 unfoldable pub fix_answer : List ℕ → Element → Outcome
 fix_answer ws r = given (verdict (fix_tests ws r)) (entries ws / 2 ∷ [])

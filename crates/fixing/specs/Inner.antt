@@ -1,13 +1,13 @@
 -- What the inner functions take and give. No operation that users call cites it. Assumes nothing.
-use Rattle.std.specs.Prelude.{◌≡◌, Bool, false, cond, ℕ, ◌+◌, ◌*◌, ◌≤◌, ◌<◌, List, [], ◌∷◌, ◌++◌, length, take, drop}
+use Rattle.std.specs.Prelude.{◌≡◌, false, ℕ, ◌+◌, ◌*◌, ◌≤◌, ◌<◌, List, [], ◌∷◌, ◌++◌, length, take, drop}
 use Rattle.algebra.specs.Words.{unreduced}
 use Rattle.multilinear.specs.Beside.{line}
-use Rattle.field.specs.Field.{p, Ext, field, to_words, Reduced}
+use Rattle.field.specs.Field.{p, Ext, field, to_words, from_words, Reduced, Holds}
+use Rattle.field.specs.declared.Element.{Element}
+use Rattle.multiplier.specs.declared.Multiplier.{Multiplier}
 use Rattle.table.specs.Table.{table_words, entries, get_at, element_at}
-use Rattle.table.specs.Refusals.{Outcome, Test, ◌gives◌, verdict, given, splits, not_power, too_many_variables}
-use Rattle.fixing.specs.declared.Rule.{Rule}
-use Rattle.fixing.specs.declared.Rule.TheVariants.{Prefix, Suffix, Sum, Monomial}
-use Rattle.fixing.specs.Fixing.{fixed_at}
+use Rattle.table.specs.Refusals.{Test, ◌gives◌, splits, not_power, too_many_variables}
+use Rattle.fixing.specs.Fixing.{Rule, Prefix, Suffix, Sum, Monomial, fixed_at}
 
 -- the sum's tests of sizes: 1, 2, 3
 abbrev pub size_tests : List ℕ → List Test
@@ -17,13 +17,9 @@ size_tests ws =
     ∷ too_many_variables (entries ws) gives 3
     ∷ []
 
--- they hold of nothing
-pub record Sized (ws : List ℕ) : Type 0 where
-  pub accepted : 0 ≡ verdict (size_tests ws)
-
--- the answer after 5
-abbrev pub unless_unreduced : Bool → ℕ → Outcome
-unless_unreduced b n = given (cond b 5 0) (n ∷ [])
+-- and the last: 5
+abbrev pub word_tests : List ℕ → List Test
+word_tests ws = unreduced p ws gives 5 ∷ []
 
 -- two entries made one
 abbrev pub combined : Rule → Ext → Ext → Ext → Ext
@@ -32,10 +28,26 @@ combined Suffix a0 a1 r = line field a0 a1 r
 combined Sum a0 a1 r = field.add a0 a1
 combined Monomial a0 a1 r = field.add a0 (field.mul a1 r)
 
+-- the two of a table of 2h entries that become entry i
+abbrev pub pair_of : Rule → ℕ → ℕ → ℕ × ℕ
+pair_of Prefix h i = (i, h + i)
+pair_of Suffix h i = (2 * i, 2 * i + 1)
+pair_of Sum h i = (i, h + i)
+pair_of Monomial h i = (i, h + i)
+
 -- a table of 2h entries
 pub record TwoHalves (h : ℕ) (ws : List ℕ) : Type 0 where
   pub few : h < 2305843009213693952
   pub count : length ws ≡ 8 * h
+
+-- steps that give the pairs of the rule, and make one of two by it
+pub record StepsBy (rule : Rule) (pair_pre : ℕ → ℕ → Type 0) (pair_post : ℕ → ℕ → ℕ × ℕ → Type 0)
+    (make_pre : Element → Element → Multiplier → Type 0) (make_post : Element → Element → Multiplier → Element → Type 0) : Type 0 where
+  pub asks : (h i : ℕ) → h < 2305843009213693952 → i < h → pair_pre h i
+  pub gives_pair : (h i : ℕ) (j : ℕ × ℕ) → pair_post h i j → j ≡ pair_of rule h i
+  pub makes : (a b : Element) (m : Multiplier) → Reduced a × Reduced b → make_pre a b m
+  pub gives_one : (a b : Element) (m : Multiplier) (e : Element) → make_post a b m e
+      → Holds e (combined rule (from_words a) (from_words b) (from_words m.r))
 
 -- all of them reduced
 pub record Halves (h : ℕ) (ws : List ℕ) : Type 0 where
@@ -67,3 +79,29 @@ paired f h ws i = f (element_at ws i) (element_at ws (h + i))
 -- its first half made of two entries each, its second as it was
 abbrev pub halved : Rule → ℕ → List ℕ → Ext → List ℕ
 halved rule h ws r = table_words h (fixed_at rule h (element_at ws) r) ++ drop (4 * h) ws
+
+-- a pair of entries of ws that stand at or past entry i, and may be made one
+pub record Joinable (make_pre : Element → Element → Type 0) (i : ℕ) (j : ℕ × ℕ) (ws : List ℕ) : Type 0 where
+  pub ahead : (i ≤ j.0) × (i ≤ j.1)
+  pub room : (4 * j.0 + 3 < length ws) × (4 * j.1 + 3 < length ws)
+  pub may : make_pre (get_at ws j.0) (get_at ws j.1)
+
+-- a loop over entries from..to of ws may ask for the pair of each, and make it one
+pub record Combinable (pair_pre : ℕ → Type 0) (pair_post : ℕ → ℕ × ℕ → Type 0) (make_pre : Element → Element → Type 0)
+    (from to : ℕ) (ws : List ℕ) : Type 0 where
+  pub ordered : from ≤ to
+  pub room : 4 * to ≤ length ws
+  pub asked : (i : ℕ) → from ≤ i → i < to → pair_pre i
+  pub paired_at : (i : ℕ) → from ≤ i → i < to → (j : ℕ × ℕ) → pair_post i j → Joinable make_pre i j ws
+
+-- entry e is what the pair of entry i was made
+abbrev pub IsMade : (ℕ → ℕ × ℕ → Type 0) → (Element → Element → Element → Type 0) → ℕ → List ℕ → Element → Type 0
+IsMade pair_post make_post i ws e = (j : ℕ × ℕ) × pair_post i j × make_post (get_at ws j.0) (get_at ws j.1) e
+
+-- entries from..to are made of their pairs, all else is as it was
+pub record Combined (pair_post : ℕ → ℕ × ℕ → Type 0) (make_post : Element → Element → Element → Type 0)
+    (from to : ℕ) (ws w : List ℕ) : Type 0 where
+  pub len : length w ≡ length ws
+  pub before : (y : ℕ) → y < from → get_at w y ≡ get_at ws y
+  pub done : (y : ℕ) → y < to → from ≤ y → IsMade pair_post make_post y ws (get_at w y)
+  pub after : drop (4 * to) w ≡ drop (4 * to) ws

@@ -6,166 +6,148 @@
 // The second half keeps its words.
 #![tactic(auto)]
 
-ghost use Rattle.std.specs.Prelude.{◌≡◌, ◌||◌, cond, ◌+◌, ◌*◌, ◌≤◌, length};
+ghost use Rattle.std.specs.Prelude.{◌≡◌, ◌||◌, ◌+◌, ◌*◌, ◌^◌, ◌≤◌, ◌<◌, length};
 ghost use Rattle.algebra.specs.Ring.{Ops, minus};
 ghost use Rattle.algebra.specs.Words.{unreduced};
 ghost use Rattle.field.specs.Field.{p, field, from_words, Reduced, Holds};
-ghost use Rattle.multiplier.specs.Ready.{Ready};
-ghost use Rattle.table.specs.Refusals.{answer, verdict};
-ghost use Rattle.fixing.specs.declared.Rule.TheVariants.{Prefix, Suffix, Sum, Monomial};
+ghost use Rattle.table.specs.Refusals.{answer, verdict, leaves};
+ghost use Rattle.fixing.specs.Fixing.{Rule, Prefix, Suffix, Sum, Monomial};
 ghost use Rattle.fixing.specs.Fixing.{remaining_outcome, fix_tests, fix_answer, fix_out, sum_answer, sum_out};
-ghost use Rattle.fixing.specs.Inner.{size_tests, Sized, unless_unreduced, TwoHalves, Halves, Pairs, Made, part, paired, halved, combined};
+ghost use Rattle.fixing.specs.Inner.{size_tests, word_tests, TwoHalves, Pairs, Made, Combinable, Combined};
+ghost use Rattle.fixing.specs.Inner.{StepsBy, part, paired, pair_of, halved, combined};
 
 use field::Element;
 use multiplier::Multiplier;
-use table::{Refusal, Verdict};
+use table::Refusal;
 
 // The most entries of a part.
 const PART: usize = 128;
 
-// Which two entries become one, and how.
-#[derive(Clone, Copy)]
-pub enum Rule {
-    Prefix,
-    Suffix,
-    Sum,
-    Monomial,
-}
-
-// The count of entries that remain, at the front.
-#[derive(Clone, Copy)]
-pub enum Remaining {
-    Entries(usize),
-    Refused(Refusal),
-}
-
-// a0 + (a1 - a0) r over the two halves.
-pub fn fix_prefix_var_mut(entries: &mut [u32], r: Element) -> Remaining
+// a0 + (a1 - a0) r over the two halves. The answer of each of these is the count of entries that remain, at the front. The step is a
+// closure of each: what has one caller alone is copied into the loop, of which the compiler makes vectors.
+pub fn fix_prefix_var_mut(entries: &mut [u32], r: Element) -> Result<usize, Refusal>
     ensures result_value { remaining_outcome result ≡ fix_answer entries.old r }
     ensures entries_after { entries.new ≡ fix_out Prefix entries.old r }
 {
-    fix(entries, Rule::Prefix, r)
+    fix(entries, r, halves, |a0, a1, m| line(a0, a1, m))
 }
 
 // a0 + (a1 - a0) r over neighbours.
-pub fn fix_suffix_var_mut(entries: &mut [u32], r: Element) -> Remaining
+pub fn fix_suffix_var_mut(entries: &mut [u32], r: Element) -> Result<usize, Refusal>
     ensures result_value { remaining_outcome result ≡ fix_answer entries.old r }
     ensures entries_after { entries.new ≡ fix_out Suffix entries.old r }
 {
-    fix(entries, Rule::Suffix, r)
+    fix(entries, r, neighbours, |a0, a1, m| line(a0, a1, m))
 }
 
 // a0 + a1 r over the two halves.
-pub fn fix_prefix_var_mut_monomial(entries: &mut [u32], r: Element) -> Remaining
+pub fn fix_prefix_var_mut_monomial(entries: &mut [u32], r: Element) -> Result<usize, Refusal>
     ensures result_value { remaining_outcome result ≡ fix_answer entries.old r }
     ensures entries_after { entries.new ≡ fix_out Monomial entries.old r }
 {
-    fix(entries, Rule::Monomial, r)
+    fix(entries, r, halves, monomial)
 }
 
 // a0 + a1 over the two halves; a constant comes back unchanged.
-pub fn sum_prefix_var_mut(entries: &mut [u32]) -> Remaining
+#[tactic(auto, using(crate::proofs::FixingOutcomes::sums))]
+pub fn sum_prefix_var_mut(entries: &mut [u32]) -> Result<usize, Refusal>
     ensures result_value { remaining_outcome result ≡ sum_answer entries.old }
     ensures entries_after { entries.new ≡ sum_out entries.old }
 {
-    let tested = test_sizes(entries);
-    match tested {
-        Verdict::Refused(refusal) => Remaining::Refused(refusal),
-        Verdict::Accepted => sum_sized(entries),
+    test_sizes(entries)?;
+    let n = entries.len() / 4;
+    if n == 1 {
+        test_words(entries)?;
+        return Ok(1);
     }
+    sum_halves(entries, n / 2)?;
+    Ok(n / 2)
 }
 
-fn fix(entries: &mut [u32], rule: Rule, r: Element) -> Remaining
+// By which entries of the table are a pair, and what is made of them.
+#[tactic(auto, using(crate::proofs::FixingOutcomes::counts), unfolding(crate::specs::Fixing::fix_answer, crate::specs::Fixing::fix_out))]
+fn fix<P: Fn(usize, usize) -> (usize, usize), F: Fn(Element, Element, Multiplier) -> Element>(
+    entries: &mut [u32],
+    r: Element,
+    pair: P,
+    make: F,
+) -> Result<usize, Refusal>
+    ghost rule: { Rule }
+    requires { StepsBy rule (P.pre pair) (P.post pair) (F.pre make) (F.post make) }
     ensures result_value { remaining_outcome result ≡ fix_answer entries.old r }
     ensures entries_after { entries.new ≡ fix_out rule entries.old r }
 {
-    let tested = test_fix(entries, r);
-    match tested {
-        Verdict::Refused(refusal) => Remaining::Refused(refusal),
-        Verdict::Accepted => {
-            let h = entries.len() / 4 / 2;
-            halve(entries, h, rule, r);
-            Remaining::Entries(h)
-        }
-    }
+    test_fix(entries, r)?;
+    let h = entries.len() / 4 / 2;
+    let m = Multiplier::new(r);
+    let pair_at = move |i|
+        requires { P.pre pair h i }
+    { pair(h, i) };
+    let made = move |a0, a1|
+        requires { F.pre make a0 a1 m }
+    { make(a0, a1, m) };
+    combine(entries, 0, h, pair_at, made);
+    Ok(h)
 }
 
-fn test_fix(entries: &[u32], r: Element) -> Verdict
+#[tactic(auto, using(table::proofs::Verdicts::tests))]
+fn test_fix(entries: &[u32], r: Element) -> Result<(), Refusal>
     ensures { answer result ≡ verdict (fix_tests entries.now r) }
 {
     let n = entries.len() / 4;
     let words = r.c;
-    Verdict::Accepted
-        .refuse_if(table::splits(entries), Refusal::Split)
-        .refuse_if(table::not_power(n), Refusal::NotPower)
-        .refuse_if(table::too_many_variables(n), Refusal::TooMany)
-        .refuse_if(field::unreduced(entries), Refusal::Unreduced)
-        .refuse_if(field::unreduced(&words), Refusal::Unreduced)
-        .refuse_if(n == 1, Refusal::Constant)
+    table::refuse_if(table::splits(entries), Refusal::Split)?;
+    table::refuse_if(table::not_power(n), Refusal::NotPower)?;
+    table::refuse_if(table::too_many_variables(n), Refusal::TooMany)?;
+    table::refuse_if(field::unreduced(entries), Refusal::Unreduced)?;
+    table::refuse_if(field::unreduced(&words), Refusal::Unreduced)?;
+    table::refuse_if(n == 1, Refusal::Constant)
 }
 
 // 1, 2, 3.
-fn test_sizes(entries: &[u32]) -> Verdict
+#[tactic(auto, using(table::proofs::Verdicts::tests))]
+fn test_sizes(entries: &[u32]) -> Result<(), Refusal>
     ensures { answer result ≡ verdict (size_tests entries.now) }
 {
     let n = entries.len() / 4;
-    Verdict::Accepted
-        .refuse_if(table::splits(entries), Refusal::Split)
-        .refuse_if(table::not_power(n), Refusal::NotPower)
-        .refuse_if(table::too_many_variables(n), Refusal::TooMany)
+    table::refuse_if(table::splits(entries), Refusal::Split)?;
+    table::refuse_if(table::not_power(n), Refusal::NotPower)?;
+    table::refuse_if(table::too_many_variables(n), Refusal::TooMany)
 }
 
-// 5, and the sums.
-fn sum_sized(entries: &mut [u32]) -> Remaining
-    requires { Sized entries.old }
-    ensures result_value { remaining_outcome result ≡ sum_answer entries.old }
-    ensures entries_after { entries.new ≡ sum_out entries.old }
+// 5.
+#[tactic(auto, using(table::proofs::Verdicts::tests))]
+fn test_words(entries: &[u32]) -> Result<(), Refusal>
+    ensures { answer result ≡ verdict (word_tests entries.now) }
 {
-    let n = entries.len() / 4;
-    if n == 1 {
-        return answer(field::unreduced(entries), 1);
-    }
-    answer(sum_halves(entries, n / 2), n / 2)
-}
-
-fn answer(unreduced: bool, n: usize) -> Remaining
-    ensures { remaining_outcome result ≡ unless_unreduced unreduced n }
-{
-    if unreduced {
-        Remaining::Refused(Refusal::Unreduced)
-    } else {
-        Remaining::Entries(n)
-    }
+    table::refuse_if(field::unreduced(entries), Refusal::Unreduced)
 }
 
 // 5 and the sums, part by part: a part's words are still at hand when they are summed. Where a later part is refused, the sums that
 // were made are taken back.
-fn sum_halves(entries: &mut [u32], h: usize) -> bool
+fn sum_halves(entries: &mut [u32], h: usize) -> Result<(), Refusal>
     requires { TwoHalves h entries.old }
-    ensures value { result ≡ unreduced p entries.old }
+    ensures result_value { answer result ≡ verdict (word_tests entries.old) }
     ensures entries_after { entries.new
-        ≡ cond (unreduced p entries.old) entries.old (halved Sum h entries.old field.zero) }
+        ≡ leaves (verdict (word_tests entries.old)) (halved Sum h entries.old field.zero) entries.old }
 {
-    let mut at = 0;
-    while at < h {
+    for at in (0..h).step_by(PART) {
         let n = table::min(PART, h - at);
-        if either(
-            is_part_unreduced(entries, at, n),
-            is_part_unreduced(entries, h + at, n),
-        ) {
+        if is_unreduced(entries, h, at, n) {
             take_back(entries, h, at);
-            return true;
+            return Err(Refusal::Unreduced);
         }
         add_part(entries, h, at, at + n);
-        at += n;
     }
-    false
+    Ok(())
 }
 
-fn either(a: bool, b: bool) -> bool
-    ensures { result ≡ a || b }
+// 5, of n entries from entry `at` on, and as many of the second half.
+fn is_unreduced(entries: &[u32], h: usize, at: usize, n: usize) -> bool
+    requires { TwoHalves h entries.now × (at + n ≤ h) }
+    ensures { result ≡ unreduced p (part at n entries.now) || unreduced p (part (h + at) n entries.now) }
 {
-    if a { true } else { b }
+    is_part_unreduced(entries, at, n) | is_part_unreduced(entries, h + at, n)
 }
 
 // 5, of n entries from entry `from` on.
@@ -174,8 +156,7 @@ fn is_part_unreduced(entries: &[u32], from: usize, n: usize) -> bool
     ensures { result ≡ unreduced p (part from n entries.now) }
 {
     let start = 4 * from;
-    let end = start + 4 * n;
-    field::unreduced(&entries[start..end])
+    field::unreduced(&entries[start..start + 4 * n])
 }
 
 // Adds to entries from..to those of the second half.
@@ -183,11 +164,13 @@ fn add_part(entries: &mut [u32], h: usize, from: usize, to: usize)
     requires { Pairs h from to entries.old }
     ensures { Made (paired field.add h entries.old) from to entries.old entries.new }
 {
-    for i in from..to {
-        let a0 = table::get(entries, i);
-        let a1 = table::get(entries, h + i);
-        table::put(entries, i, a0.add(a1));
-    }
+    combine(
+        entries,
+        from,
+        to,
+        move |i| halves(h, i),
+        |a0, a1| a0.add(a1),
+    );
 }
 
 // Takes from entries 0..to those of the second half: (a0 + a1) - a1 is a0.
@@ -195,106 +178,59 @@ fn take_back(entries: &mut [u32], h: usize, to: usize)
     requires { Pairs h 0 to entries.old }
     ensures { Made (paired (minus field) h entries.old) 0 to entries.old entries.new }
 {
-    for i in 0..to {
-        let sum = table::get(entries, i);
-        let a1 = table::get(entries, h + i);
-        table::put(entries, i, sum.sub(a1));
-    }
+    combine(entries, 0, to, move |i| halves(h, i), |sum, a1| sum.sub(a1));
 }
 
-// The first h of 2h entries become what the rule makes of two: one loop a rule, chosen once.
-fn halve(entries: &mut [u32], h: usize, rule: Rule, r: Element)
-    requires { Halves h entries.old × Reduced r }
-    ensures { entries.new ≡ halved rule h entries.old (from_words r) }
+// Entries from..to become what `make` gives of the two entries that `pair` names. Those stand at or past the entry that is written, so
+// each is read before it is written.
+fn combine<P: Fn(usize) -> (usize, usize), F: Fn(Element, Element) -> Element>(
+    entries: &mut [u32],
+    from: usize,
+    to: usize,
+    pair: P,
+    make: F,
+)
+    requires { Combinable (P.pre pair) (P.post pair) (F.pre make) from to entries.old }
+    ensures { Combined (P.post pair) (F.post make) from to entries.old entries.new }
 {
-    match rule {
-        Rule::Prefix => halve_prefix(entries, h, r),
-        Rule::Suffix => halve_suffix(entries, h, r),
-        Rule::Sum => add_part(entries, h, 0, h),
-        Rule::Monomial => halve_monomial(entries, h, r),
+    for i in from..to {
+        let (first, second) = pair(i);
+        let made = make(table::get(entries, first), table::get(entries, second));
+        table::put(entries, i, made);
     }
 }
 
-// In each of these an entry is written after the last turn that reads it.
-fn halve_prefix(entries: &mut [u32], h: usize, r: Element)
-    requires { Halves h entries.old × Reduced r }
-    ensures { entries.new ≡ halved Prefix h entries.old (from_words r) }
+// The pair of entry i of h: its own of each half, or neighbours.
+#[inline(always)]
+fn halves(h: usize, i: usize) -> (usize, usize)
+    requires { h + i < 2 ^ 64 }
+    ensures { result ≡ pair_of Prefix h i }
 {
-    let m = Multiplier::new(r);
-    for i in 0..h {
-        let a0 = table::get(entries, i);
-        let a1 = table::get(entries, h + i);
-        table::put(entries, i, line_prefix(a0, a1, m));
-    }
+    (i, h + i)
 }
 
-fn halve_suffix(entries: &mut [u32], h: usize, r: Element)
-    requires { Halves h entries.old × Reduced r }
-    ensures { entries.new ≡ halved Suffix h entries.old (from_words r) }
+#[inline(always)]
+fn neighbours(_h: usize, i: usize) -> (usize, usize)
+    requires { 2 * i + 1 < 2 ^ 64 }
+    ensures { result ≡ pair_of Suffix _h i }
 {
-    let m = Multiplier::new(r);
-    for i in 0..h {
-        let a0 = table::get(entries, 2 * i);
-        let a1 = table::get(entries, 2 * i + 1);
-        table::put(entries, i, line_suffix(a0, a1, m));
-    }
+    (2 * i, 2 * i + 1)
 }
 
-fn halve_monomial(entries: &mut [u32], h: usize, r: Element)
-    requires { Halves h entries.old × Reduced r }
-    ensures { entries.new ≡ halved Monomial h entries.old (from_words r) }
-{
-    let m = Multiplier::new(r);
-    for i in 0..h {
-        let a0 = table::get(entries, i);
-        let a1 = table::get(entries, h + i);
-        table::put(entries, i, monomial(a0, a1, m));
-    }
-}
-
-// a0 + (a1 - a0) r. Each loop has its own such function, which the compiler copies into it: with two callers it stays a call, and the loop
-// makes no vectors.
-fn line_prefix(a0: Element, a1: Element, m: Multiplier) -> Element
-    requires { (Reduced a0 × Reduced a1) × Ready m }
+// a0 + (a1 - a0) r.
+#[inline(always)]
+fn line(a0: Element, a1: Element, m: Multiplier) -> Element
+    requires { Reduced a0 × Reduced a1 }
     ensures { Holds result (combined Prefix (from_words a0) (from_words a1) (from_words m.r)) }
 {
-    let d = a1.sub(a0);
-    a0.add(Element {
-        c: [
-            m.coordinate_0(d),
-            m.coordinate_1(d),
-            m.coordinate_2(d),
-            m.coordinate_3(d),
-        ],
-    })
-}
-
-fn line_suffix(a0: Element, a1: Element, m: Multiplier) -> Element
-    requires { (Reduced a0 × Reduced a1) × Ready m }
-    ensures { Holds result (combined Suffix (from_words a0) (from_words a1) (from_words m.r)) }
-{
-    let d = a1.sub(a0);
-    a0.add(Element {
-        c: [
-            m.coordinate_0(d),
-            m.coordinate_1(d),
-            m.coordinate_2(d),
-            m.coordinate_3(d),
-        ],
-    })
+    m.plus(a0, a1.sub(a0))
 }
 
 // a0 + a1 r.
+#[inline(always)]
 fn monomial(a0: Element, a1: Element, m: Multiplier) -> Element
-    requires { (Reduced a0 × Reduced a1) × Ready m }
+    requires { Reduced a0 × Reduced a1 }
     ensures { Holds result (combined Monomial (from_words a0) (from_words a1) (from_words m.r)) }
 {
-    a0.add(Element {
-        c: [
-            m.coordinate_0(a1),
-            m.coordinate_1(a1),
-            m.coordinate_2(a1),
-            m.coordinate_3(a1),
-        ],
-    })
+    m.plus(a0, a1)
 }

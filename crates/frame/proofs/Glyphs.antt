@@ -1,25 +1,18 @@
 -- Digits: their ranges, and that the digit of a value below 16 is one and has that value. Assumes nothing.
 use mathlib.Core.Path.{◌≡◌, refl, sym, ◌∙◌}
-use mathlib.Core.Bool.{Bool, true, false, ◌&&◌, ◌||◌}
+use mathlib.Core.Bool.{Bool, true, false, ◌&&◌}
 use Prim.Native.Nat.{ℕ, ◌+◌, ◌-◌, ◌≤◌, ◌<◌}
 use native.Mathlib.Omega.{arith}
 use lib.Dec.{leb, ltb}
+use Rattle.std.proofs.Math.Bool.{or-false}
+use Rattle.std.proofs.lemmas.Bool.{and_parts}
 use borrow.Author.Tests.{leb-true, ltb-true, ltb-false, le-leb, lt-leb}
 use Rattle.frame.specs.Hex.{is_digit, digit_of, glyph}
 
--- a test that holds with another holds
-pub and_both : (a b : Bool) → a && b ≡ true → (a ≡ true) × (b ≡ true)
-and_both true b h = (refl, h)
-and_both false b h = absurd (let z : ◌≡◌ {A = ℕ} 0 1 = cc in omega arith)
-
-pub or_false : (b : Bool) → b || false ≡ b
-or_false true = refl
-or_false false = refl
-
 pub number_range : (c : ℕ) → c < 97 → is_digit c ≡ true → (48 ≤ c) × (c ≤ 57)
 number_range c h d =
-    let n : leb 48 c && leb c 57 ≡ true = sym (or_false (leb 48 c && leb c 57)) ∙ (rw (lt-leb 97 c h) at d) in
-    let both = and_both (leb 48 c) (leb c 57) n in
+    let n : leb 48 c && leb c 57 ≡ true = sym (or-false (leb 48 c && leb c 57)) ∙ (rw (lt-leb 97 c h) at d) in
+    let both = and_parts (leb 48 c) (leb c 57) n in
     (leb-true 48 c both.0, leb-true c 57 both.1)
 
 pub letter_range : (c : ℕ) → 97 ≤ c → is_digit c ≡ true → c ≤ 102

@@ -1,17 +1,12 @@
--- How long what is spelled, read and printed is, word by word and byte by byte; and how long the bytes of each kind of frame are.
--- Assumes nothing.
+-- How long what is spelled, read and printed is, word by word and byte by byte. Assumes nothing.
 use mathlib.Core.Path.{◌≡◌, refl, ap}
-use mathlib.Core.Bool.{Bool, true, false, ◌&&◌}
-use Prim.Native.Nat.{ℕ, zero, suc, ◌+◌, ◌*◌, ◌/◌, ◌≤◌, ◌<◌}
+use mathlib.Core.Bool.{true, ◌&&◌}
+use Prim.Native.Nat.{ℕ, zero, suc, ◌+◌, ◌*◌, ◌/◌, ◌<◌}
 use native.Mathlib.Omega.{arith}
 use mathlib.Core.List.{List, [], ◌∷◌}
-use lib.Dec.{leb}
 use lib.ListN.{length, get_or}
-use borrow.Author.Tests.{eqb-true, leb-true, ne_eqb}
 use Rattle.frame.specs.Hex.{is_digit, digit_of, is_hex, spelled, words_at, word_digits}
-use Rattle.frame.specs.Frame.{byte_at, starts, is_open, is_words, kind_of}
-use Rattle.frame.specs.declared.Kind.TheVariants.{NoFrame}
-use Rattle.frame.proofs.Glyphs.{and_both}
+use Rattle.std.proofs.lemmas.Bool.{and_parts}
 
 -- two digits a byte
 pub spelled_length : (line : List ℕ) → length (spelled line) ≡ length line / 2
@@ -46,8 +41,8 @@ at_spelled (c ∷ d ∷ cs) (suc k) h =
 hex_parts : (c d : ℕ) (cs : List ℕ) → is_hex (c ∷ d ∷ cs) ≡ true → (is_digit c ≡ true) × (is_digit d ≡ true) × (is_hex cs ≡ true)
 unfolding is_hex
 hex_parts c d cs h =
-    let both = and_both (is_digit c && is_digit d) (is_hex cs) h in
-    let two = and_both (is_digit c) (is_digit d) both.0 in
+    let both = and_parts (is_digit c && is_digit d) (is_hex cs) h in
+    let two = and_parts (is_digit c) (is_digit d) both.0 in
     (two.0, two.1, both.1)
 
 -- each character of a line of digits is one
@@ -58,29 +53,3 @@ hex_at (c ∷ []) h j l = absurd (let z : ◌≡◌ {A = ℕ} 0 1 = cc in omega 
 hex_at (c ∷ d ∷ cs) h zero l = (hex_parts c d cs h).0
 hex_at (c ∷ d ∷ cs) h (suc zero) l = (hex_parts c d cs h).1
 hex_at (c ∷ d ∷ cs) h (suc (suc j)) l = hex_at cs (hex_parts c d cs h).2 j (omega arith)
-
-module _ (bs : List ℕ) where
-  -- bytes that start so are so many
-  pub sized : (size first : ℕ) → starts bs size first ≡ true → length bs ≡ size
-  sized size first h = eqb-true (length bs) size (and_both _ _ h).0
-
-  pub open_length : is_open bs ≡ true → length bs ≡ 21
-  open_length h = sized 21 1 (and_both _ _ (and_both _ _ h).0).0
-
-  pub words_size : is_words bs ≡ true → (length bs ≡ 2 + 4 * byte_at bs 1) × (byte_at bs 1 ≤ 16)
-  words_size h =
-      let both = and_both (starts bs (2 + 4 * byte_at bs 1) 3) (leb (byte_at bs 1) 16) h in
-      (sized (2 + 4 * byte_at bs 1) 3 both.0, leb-true (byte_at bs 1) 16 both.1)
-
-  -- no frame has more than 66 bytes
-  pub long_is_none : 66 < length bs → kind_of bs ≡ NoFrame
-  unfolding kind_of
-  long_is_none h = go (is_words bs) refl
-    where
-      go : (t : Bool) → is_words bs ≡ t → kind_of bs ≡ NoFrame
-      go true e = let no : ⊥ = omega (arith, words_size e) in absurd no
-      go false e =
-          let a : length bs ≡ 21 → ⊥ = λ q. omega arith in
-          let b : length bs ≡ 18 → ⊥ = λ q. omega arith in
-          let c : length bs ≡ 1 → ⊥ = λ q. omega arith in
-          rw (ne_eqb (length bs) 21 a, ne_eqb (length bs) 18 b, e, ne_eqb (length bs) 1 c)

@@ -1,5 +1,6 @@
 pub mod Glyphs
 pub mod Grammar
+pub mod FirstByte
 mod Scanning
 mod Spelling
 mod Reading

@@ -1,6 +1,6 @@
 -- The loop that prints words, at word i: the digits of those before i stand in front. Assumes nothing.
 use mathlib.Core.Path.{◌≡◌, refl, ap, subst, ◌∙◌}
-use Prim.Native.Nat.{ℕ, suc, ◌+◌, ◌*◌, ◌/◌, ◌%◌, ◌≤◌, ◌<◌}
+use Prim.Native.Nat.{ℕ, suc, ◌+◌, ◌*◌, ◌/◌, ◌%◌, ◌^◌, ◌≤◌, ◌<◌}
 use native.Mathlib.Numerals.{add-one}
 use native.Mathlib.Omega.{arith}
 use mathlib.Core.List.{List, [], ◌∷◌, ◌++◌, append-nil}
@@ -19,14 +19,17 @@ add_six : (n : ℕ) → n + 6 ≡ suc (suc (suc (suc (suc (suc n)))))
 add_six n = omega arith
 
 -- a word's four bytes, one after the other
-pub bytes_in_turn : (at w : ℕ) (t₀ t₁ t₂ t₃ t₄ : List ℕ)
-    → t₁ ≡ sets t₀ at (byte_digits (w / 16777216))
-    → t₂ ≡ sets t₁ (at + 2) (byte_digits (w / 65536 % 256))
-    → t₃ ≡ sets t₂ (at + 4) (byte_digits (w / 256 % 256))
-    → t₄ ≡ sets t₃ (at + 6) (byte_digits (w % 256))
+pub bytes_in_turn : (at w : ℕ) {a b c d : ℕ} → w < 2 ^ 32 → a ≡ w / 256 ^ 3 % 256 → b ≡ w / 256 ^ 2 % 256 → c ≡ w / 256 ^ 1 % 256
+    → d ≡ w % 256 → (t₀ t₁ t₂ t₃ t₄ : List ℕ)
+    → t₁ ≡ sets t₀ at (byte_digits a)
+    → t₂ ≡ sets t₁ (at + 2) (byte_digits b)
+    → t₃ ≡ sets t₂ (at + 4) (byte_digits c)
+    → t₄ ≡ sets t₃ (at + 6) (byte_digits d)
     → t₄ ≡ sets t₀ at (word_digits (w ∷ []))
 unfolding word_digits
-bytes_in_turn at w t₀ t₁ t₂ t₃ t₄ e₁ e₂ e₃ e₄ = rw (e₄, e₃, e₂, e₁, add_two, add_four, add_six)
+bytes_in_turn at w h a b c d t₀ t₁ t₂ t₃ t₄ e₁ e₂ e₃ e₄ =
+    let first : w / 256 ^ 3 % 256 ≡ w / 16777216 = omega arith in
+    rw (e₄, e₃, e₂, e₁, a, b, c, d, first, add_two, add_four, add_six)
 
 append : (xs ys : List ℕ) → word_digits (xs ++ ys) ≡ word_digits xs ++ word_digits ys
 unfolding word_digits

@@ -4,15 +4,14 @@
 --     02 index coordinate
 --     03 count words
 --     04
-use Rattle.std.specs.Prelude.{ℕ, ◌+◌, ◌-◌, ◌*◌, Bool, cond, ◌&&◌, List, [], ◌∷◌, ◌++◌, eqb, leb, ltb, length, get_or, take, replicate}
+use Rattle.std.specs.Prelude.{ℕ, ◌+◌, ◌*◌, Bool, cond, ◌&&◌, List, eqb, leb, ltb, length, get_or, Option, Some, None}
 use Rattle.multilinear.specs.declared.Side.{Side}
 use Rattle.multilinear.specs.declared.Side.TheVariants.{Prefix, Suffix}
 use Rattle.multilinear.specs.declared.Weight.{Weight}
 use Rattle.multilinear.specs.declared.Weight.TheVariants.{Plain, Shifted, Next}
 use Rattle.field.specs.declared.Element.{Element}
-use Rattle.frame.specs.declared.Kind.{Kind}
-use Rattle.frame.specs.declared.Kind.TheVariants as kind
 use Rattle.frame.specs.declared.Frame.{Frame}
+use Rattle.frame.specs.declared.Frame.TheVariants.{Open, Coordinate, Words, Close}
 use Rattle.frame.specs.Hex.{bytes_of, words_at}
 
 -- a byte, 0 where there is none
@@ -49,85 +48,30 @@ is_words bs = starts bs (2 + 4 * byte_at bs 1) 3 && leb (byte_at bs 1) 16
 abbrev pub is_close : List ℕ → Bool
 is_close bs = starts bs 1 4
 
--- which frame the bytes are
-unfoldable pub kind_of : List ℕ → Kind
-kind_of bs =
-    cond (is_open bs) kind.Open
-    (cond (is_coordinate bs) kind.Coordinate
-    (cond (is_words bs) kind.Words
-    (cond (is_close bs) kind.Close kind.NoFrame)))
+-- an `01` by its bytes
+abbrev pub opening : List ℕ → Frame
+opening bs =
+    Open (record { side = side_of bs; weight = weight_of bs; n = byte_at bs 3; k = byte_at bs 4; scale = element_of bs 5 })
 
--- the words of a frame that has none
-abbrev pub no_words : List ℕ
-no_words = replicate 16 0
+-- an `02`
+abbrev pub coordinate : List ℕ → Frame
+coordinate bs = Coordinate (byte_at bs 1) (element_of bs 2)
 
--- a frame of no fields
-abbrev pub bare : Kind → Frame
-bare kind =
-    record {
-      kind = kind;
-      side = Prefix;
-      weight = Plain;
-      n = 0;
-      k = 0;
-      index = 0;
-      element = record { c = 0 ∷ 0 ∷ 0 ∷ 0 ∷ [] };
-      count = 0;
-      words = no_words;
-    }
+-- an `03`
+abbrev pub feeding : List ℕ → Frame
+feeding bs = Words (words_at (byte_at bs 1) bs 2)
 
--- a kind's fields by their bytes; those that it does not have are as in a frame of none
-abbrev pub fields_of : Kind → List ℕ → Frame
-fields_of kind.Open bs =
-    record {
-      kind = kind.Open;
-      side = side_of bs;
-      weight = weight_of bs;
-      n = byte_at bs 3;
-      k = byte_at bs 4;
-      index = 0;
-      element = element_of bs 5;
-      count = 0;
-      words = no_words;
-    }
-fields_of kind.Coordinate bs =
-    record {
-      kind = kind.Coordinate;
-      side = Prefix;
-      weight = Plain;
-      n = 0;
-      k = 0;
-      index = byte_at bs 1;
-      element = element_of bs 2;
-      count = 0;
-      words = no_words;
-    }
-fields_of kind.Words bs =
-    record {
-      kind = kind.Words;
-      side = Prefix;
-      weight = Plain;
-      n = 0;
-      k = 0;
-      index = 0;
-      element = record { c = 0 ∷ 0 ∷ 0 ∷ 0 ∷ [] };
-      count = byte_at bs 1;
-      words = words_at (byte_at bs 1) bs 2 ++ replicate (16 - byte_at bs 1) 0;
-    }
-fields_of kind.Close bs = bare kind.Close
-fields_of kind.NoFrame bs = bare kind.NoFrame
-
--- the frame of bytes
-unfoldable pub frame_by : List ℕ → Frame
-frame_by bs = fields_of (kind_of bs) bs
+-- the frame of bytes, or none
+unfoldable pub frame_by : List ℕ → Option Frame
+frame_by bs =
+    cond (is_open bs) (Some (opening bs))
+    (cond (is_coordinate bs) (Some (coordinate bs))
+    (cond (is_words bs) (Some (feeding bs))
+    (cond (is_close bs) (Some Close) None)))
 
 -- the frame of a line, without its line feed
-unfoldable pub frame_of : List ℕ → Frame
+unfoldable pub frame_of : List ℕ → Option Frame
 frame_of line = frame_by (bytes_of line)
-
--- the words of an `03`
-abbrev pub words_of : Frame → List ℕ
-words_of f = take f.count f.words
 
 -- one more than a frame's digits: of a longer line as many tell that it is no frame (`cut_alike` of proofs/Decoding.antt)
 abbrev pub most_line : ℕ

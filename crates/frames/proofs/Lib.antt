@@ -1,4 +1,2 @@
-mod Counting
-mod Answers
 pub mod Keeping
 mod Turns

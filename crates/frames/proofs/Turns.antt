@@ -1,34 +1,49 @@
 -- What a line gives and leaves, by its answer. Assumes nothing.
-use mathlib.Core.Path.{◌≡◌, refl, ap₂}
+use mathlib.Core.Path.{◌≡◌, sym, ap, ap₂, ◌∙◌}
 use mathlib.Core.List.{List}
 use Prim.Native.Nat.{ℕ}
-use Rattle.table.specs.Refusals.{answer}
+use Rattle.std.specs.Prelude.{Option, Some, Result, Ok, Err}
+use Rattle.table.specs.Refusals.{number, verdict}
 use Rattle.table.specs.declared.Refusal.{Refusal}
-use Rattle.table.specs.declared.Verdict.{Verdict}
-use Rattle.table.specs.declared.Verdict.TheVariants.{Accepted, Refused}
-use Rattle.table.proofs.Answers.{answer_as}
-use Rattle.table.proofs.Outcomes.{leaves_by, left_as}
+use Rattle.table.proofs.Fronts.{front_refused, front_passed}
+use Rattle.table.proofs.Outcomes.{refused_leaves, accepted_leaves}
 use Rattle.frame.specs.declared.Frame.{Frame}
 use Rattle.runs.specs.declared.Reader.{Reader}
-use Rattle.runs.specs.declared.Turn.{Turn}
-use Rattle.runs.specs.Reader.{line_answer, taken, out_by, turn, turned, out_after, Ready}
+use Rattle.runs.specs.Reader.{shared_tests, own_tests, frame_tests, line_answer, taken, out_by, standing, turn, turned, out_after, Ready}
 
 -- a line of this frame gives t and leaves w
-abbrev pub Gives : Reader → Frame → List ℕ → Turn → List ℕ → Type 0
-Gives r f out t w = (turn t ≡ turned r f) × ((w ≡ out_after r f out) × Ready t.reader w)
+abbrev pub Gives : Reader → Option Frame → List ℕ → Result Reader Refusal → List ℕ → Type 0
+Gives r x out t w = (turn t r ≡ turned r x) × ((w ≡ out_after r x out) × Ready (standing t r) w)
 
-module _ (r : Reader) (f : Frame) (out : List ℕ) where
-  -- the tests' verdict is t, and the line goes by its case v
-  gives : {t v : Verdict} {x : Reader} {w : List ℕ} → answer t ≡ line_answer r f → t ≡ v
-      → x ≡ leaves_by v (taken f.kind r f) r → w ≡ leaves_by v (out_by f.kind r f out) out → Ready x w
-      → Gives r f out (record { answer = v; reader = x }) w
+module _ (r : Reader) (x : Option Frame) (out : List ℕ) where
+  refused : (e : Refusal) → number e ≡ line_answer r x → Ready r out → Gives r x out (Err e) out
   unfolding turned out_after
-  gives e h q l d = (ap₂ (λ n (y : Reader). (n, y)) (answer_as h e) (left_as _ _ h e q), (left_as _ _ h e l, d))
+  refused e h d =
+      (ap₂ (λ n (y : Reader). (n, y)) h (sym (refused_leaves _ e h _ _)), (sym (refused_leaves _ e h _ _), d))
 
-  pub refused : {t : Verdict} {z : Refusal} → answer t ≡ line_answer r f → t ≡ Refused z → Ready r out
-      → Gives r f out (record { answer = Refused z; reader = r }) out
-  refused e h d = gives e h refl refl d
+  -- by the tests that all lines share
+  pub out_of_place : (e : Refusal) → number e ≡ verdict (shared_tests r.phase x) → Ready r out → Gives r x out (Err e) out
+  unfolding line_answer
+  out_of_place e h = refused e (front_refused (shared_tests r.phase x) (own_tests r x) tt e h)
 
-  pub accepted : {t : Verdict} {x : Reader} {w : List ℕ} → answer t ≡ line_answer r f → t ≡ Accepted
-      → (x ≡ taken f.kind r f) × ((w ≡ out_by f.kind r f out) × Ready x w) → Gives r f out (record { answer = Accepted; reader = x }) w
-  accepted e h g = gives e h g.0 g.1.0 g.1.1
+-- past them, a frame's own tests decide
+module _ (r : Reader) (x : Option Frame) (out : List ℕ) {f : Frame} (is : x ≡ Some f) (placed : 0 ≡ verdict (shared_tests r.phase x)) where
+  answered : {n : ℕ} → n ≡ verdict (frame_tests r f) → n ≡ line_answer r x
+  unfolding line_answer
+  answered h = front_passed (shared_tests r.phase x) (own_tests r x) tt placed (h ∙ ap (λ y. verdict (own_tests r y)) (sym is))
+
+  pub own_refused : (e : Refusal) → number e ≡ verdict (frame_tests r f) → Ready r out → Gives r x out (Err e) out
+  own_refused e h = refused r x out e (answered h)
+
+  pub line_accepted : 0 ≡ verdict (frame_tests r f) → line_answer r (Some f) ≡ 0
+  line_accepted h = ap (line_answer r) (sym is) ∙ sym (answered h)
+
+  pub accepted : 0 ≡ verdict (frame_tests r f) → {next : Reader} {w : List ℕ} → next ≡ taken r (Some f) → w ≡ out_by r (Some f) out
+      → Ready next w → Gives r x out (Ok next) w
+  unfolding turned out_after
+  accepted h {next} {w} g q d =
+      let zero = answered h in
+      let f_is = sym is in (
+        ap₂ (λ n (y : Reader). (n, y)) zero (g ∙ ap (taken r) f_is ∙ sym (accepted_leaves _ zero _ _)),
+        (q ∙ ap (λ y. out_by r y out) f_is ∙ sym (accepted_leaves _ zero _ _), d),
+      )

@@ -1,2 +1,2 @@
-mod Applying
-mod Chaining
+pub mod Applying
+pub mod Chaining

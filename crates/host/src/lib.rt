@@ -1,6 +1,6 @@
 // The operations for a host program that compares and measures them: words in slices, and 0 or the refusal's number. A scale is
 // four numbers, as in the ward's calls; an operand or an answer that is one element is an array of four words.
-#![tactic(auto)]
+#![tactic(auto, using(crate::proofs::Applying::applying))]
 
 mod answers;
 mod elements;
@@ -13,11 +13,9 @@ ghost use Rattle.next.specs.Next.{eval_eq_answer, eval_next_answer};
 ghost use Rattle.poly.specs.Poly.{new_answer, new_out, next_out};
 ghost use Rattle.eq_batch.specs.Batch.{batch_answer, set_out, add_out};
 ghost use Rattle.host_answers.specs.Host.{element_of, answered, shown};
-ghost use Rattle.host.specs.declared.elements.Operation.TheVariants.{Add, Sub, Mul, Neg, Double};
-ghost use Rattle.host.specs.declared.elements.Operation.TheVariants.{MulBase, FromBase, MulRepeat};
+ghost use Rattle.host.specs.Elements.Operation.{Add, Sub, Mul, Neg, Double, MulBase, FromBase, MulRepeat};
 ghost use Rattle.host.specs.Elements.{single, element_answer, element_out};
 
-use elements::Operation;
 use field::Element;
 
 #[unsafe(no_mangle)]
@@ -25,7 +23,7 @@ pub extern "C" fn host_add(x: &[u32; 4], y: &[u32; 4], out: &mut [u32; 4]) -> u3
     ensures value { result ≡ element_answer x.now y.now }
     ensures out_after { out.new ≡ element_out Add x.now y.now out.old }
 {
-    elements::apply(Operation::Add, x, y, out)
+    elements::apply(|a, b| a.add(b), x, y, out)
 }
 
 #[unsafe(no_mangle)]
@@ -33,7 +31,7 @@ pub extern "C" fn host_sub(x: &[u32; 4], y: &[u32; 4], out: &mut [u32; 4]) -> u3
     ensures value { result ≡ element_answer x.now y.now }
     ensures out_after { out.new ≡ element_out Sub x.now y.now out.old }
 {
-    elements::apply(Operation::Sub, x, y, out)
+    elements::apply(|a, b| a.sub(b), x, y, out)
 }
 
 #[unsafe(no_mangle)]
@@ -41,7 +39,7 @@ pub extern "C" fn host_mul(x: &[u32; 4], y: &[u32; 4], out: &mut [u32; 4]) -> u3
     ensures value { result ≡ element_answer x.now y.now }
     ensures out_after { out.new ≡ element_out Mul x.now y.now out.old }
 {
-    elements::apply(Operation::Mul, x, y, out)
+    elements::apply(|a, b| a.mul(b), x, y, out)
 }
 
 #[unsafe(no_mangle)]
@@ -49,7 +47,7 @@ pub extern "C" fn host_neg(x: &[u32; 4], out: &mut [u32; 4]) -> u32
     ensures value { result ≡ element_answer x.now x.now }
     ensures out_after { out.new ≡ element_out Neg x.now x.now out.old }
 {
-    elements::apply(Operation::Neg, x, x, out)
+    elements::apply(|a, _| a.neg(), x, x, out)
 }
 
 #[unsafe(no_mangle)]
@@ -57,7 +55,7 @@ pub extern "C" fn host_double(x: &[u32; 4], out: &mut [u32; 4]) -> u32
     ensures value { result ≡ element_answer x.now x.now }
     ensures out_after { out.new ≡ element_out Double x.now x.now out.old }
 {
-    elements::apply(Operation::Double, x, x, out)
+    elements::apply(|a, _| a.double(), x, x, out)
 }
 
 #[unsafe(no_mangle)]
@@ -65,8 +63,7 @@ pub extern "C" fn host_mul_base(x: &[u32; 4], word: u32, out: &mut [u32; 4]) -> 
     ensures value { result ≡ element_answer x.now (single word) }
     ensures out_after { out.new ≡ element_out MulBase x.now (single word) out.old }
 {
-    let y = [word, 0, 0, 0];
-    elements::apply(Operation::MulBase, x, &y, out)
+    elements::apply(|a, b| a.mul_base(b.c[0]), x, &[word, 0, 0, 0], out)
 }
 
 #[unsafe(no_mangle)]
@@ -74,8 +71,8 @@ pub extern "C" fn host_from_base(word: u32, out: &mut [u32; 4]) -> u32
     ensures value { result ≡ element_answer (single word) (single word) }
     ensures out_after { out.new ≡ element_out FromBase (single word) (single word) out.old }
 {
-    let y = [word, 0, 0, 0];
-    elements::apply(Operation::FromBase, &y, &y, out)
+    let x = [word, 0, 0, 0];
+    elements::apply(|a, _| Element::from_base(a.c[0]), &x, &x, out)
 }
 
 // x y^times, product by product: a chain to measure.
@@ -84,14 +81,14 @@ pub extern "C" fn host_mul_repeat(x: &[u32; 4], y: &[u32; 4], times: u64, out: &
     ensures value { result ≡ element_answer x.now y.now }
     ensures out_after { out.new ≡ element_out (MulRepeat times) x.now y.now out.old }
 {
-    elements::apply(Operation::MulRepeat(times), x, y, out)
+    elements::apply(|a, b| elements::chain(a, b, times), x, y, out)
 }
 
 #[unsafe(no_mangle)]
 pub extern "C" fn host_equality_at_vertex(point: &[u32], vertex: usize, out: &mut [u32; 4]) -> u32
     ensures { answered result out.new ≡ shown (vertex_answer point.now vertex) out.old }
 {
-    host_answers::give(point::equality::equality_at_vertex(point, vertex), out)
+    host_answers::give_words(point::equality::equality_at_vertex(point, vertex), out)
 }
 
 #[unsafe(no_mangle)]
@@ -99,7 +96,7 @@ pub extern "C" fn host_equality_weights_msb(point: &[u32], out: &mut [u32]) -> u
     ensures value { result ≡ table_answer point.now out.old }
     ensures out_after { out.new ≡ equality_out Msb point.now out.old }
 {
-    point::equality::equality_weights_msb(point, out).answer()
+    table::answer(point::equality::equality_weights_msb(point, out))
 }
 
 #[unsafe(no_mangle)]
@@ -107,7 +104,7 @@ pub extern "C" fn host_equality_weights_lsb(point: &[u32], out: &mut [u32]) -> u
     ensures value { result ≡ table_answer point.now out.old }
     ensures out_after { out.new ≡ equality_out Lsb point.now out.old }
 {
-    point::equality::equality_weights_lsb(point, out).answer()
+    table::answer(point::equality::equality_weights_lsb(point, out))
 }
 
 #[unsafe(no_mangle)]
@@ -115,7 +112,7 @@ pub extern "C" fn host_eval_eq(point: &[u32], other: &[u32], out: &mut [u32; 4])
     ensures { answered result out.new
         ≡ shown (eval_eq_answer point.now other.now) out.old }
 {
-    host_answers::give(next::eval_eq(point, other), out)
+    host_answers::give_words(next::eval_eq(point, other), out)
 }
 
 #[unsafe(no_mangle)]
@@ -130,7 +127,7 @@ pub extern "C" fn host_eval_next(point: &[u32], other: &[u32], out: &mut [u32; 1
 pub extern "C" fn host_eval_select(point: &[u32], var: u32, out: &mut [u32; 4]) -> u32
     ensures { answered result out.new ≡ shown (eval_select_answer var point.now) out.old }
 {
-    host_answers::give(point::select::eval_select(var, point), out)
+    host_answers::give_words(point::select::eval_select(var, point), out)
 }
 
 #[unsafe(no_mangle)]
@@ -148,7 +145,7 @@ pub extern "C" fn host_new_from_point(
     let scale = Element {
         c: [scale0, scale1, scale2, scale3],
     };
-    poly::new_from_point(point, scale, out).answer()
+    table::answer(poly::new_from_point(point, scale, out))
 }
 
 #[unsafe(no_mangle)]
@@ -156,7 +153,7 @@ pub extern "C" fn host_new_next_from_point(point: &[u32], out: &mut [u32]) -> u3
     ensures value { result ≡ table_answer point.now out.old }
     ensures out_after { out.new ≡ next_out point.now out.old }
 {
-    poly::new_next_from_point(point, out).answer()
+    table::answer(poly::new_next_from_point(point, out))
 }
 
 #[unsafe(no_mangle)]
@@ -169,7 +166,7 @@ pub extern "C" fn host_eval_eq_batch(
     ensures value { result ≡ batch_answer false n points.now scalars.now out.old }
     ensures out_after { out.new ≡ set_out n points.now scalars.now out.old }
 {
-    eq_batch::eval_eq_batch(n, points, scalars, out).answer()
+    table::answer(eq_batch::eval_eq_batch(n, points, scalars, out))
 }
 
 #[unsafe(no_mangle)]
@@ -182,5 +179,5 @@ pub extern "C" fn host_eval_eq_batch_add(
     ensures value { result ≡ batch_answer true n points.now scalars.now out.old }
     ensures out_after { out.new ≡ add_out n points.now scalars.now out.old }
 {
-    eq_batch::eval_eq_batch_add(n, points, scalars, out).answer()
+    table::answer(eq_batch::eval_eq_batch_add(n, points, scalars, out))
 }

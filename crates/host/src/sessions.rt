@@ -7,7 +7,7 @@ use field::Element;
 use ledger::Session;
 use multilinear::{Side, Weight};
 use plan::Plan;
-use session::Settled;
+use table::Refusal;
 
 // Words before the coordinates.
 const HEAD: usize = 10;
@@ -32,13 +32,16 @@ pub extern "C" fn host_session_open(
     head: &mut [u32; HEAD],
     coordinates: &mut [u32; COORDINATES],
 ) -> u32 {
-    if is_no_session(side, weight, 0) {
+    let Some(side) = side_of(side) else {
         return NO_SESSION;
-    }
+    };
+    let Some(weight) = weight_of(weight) else {
+        return NO_SESSION;
+    };
     let scale = Element {
         c: [scale0, scale1, scale2, scale3],
     };
-    let opened = session::open(n, side_of(side), weight_of(weight), scale, point, out);
+    let opened = session::open(n, side, weight, scale, point, out);
     keep(opened, head, coordinates)
 }
 
@@ -49,11 +52,10 @@ pub extern "C" fn host_session_feed(
     head: &mut [u32; HEAD],
     coordinates: &mut [u32; COORDINATES],
 ) -> u32 {
-    if is_no_session(head[2], head[3], head[5]) {
+    let Some(s) = session_of(head, coordinates) else {
         return NO_SESSION;
-    }
-    let fed = session::feed(session_of(head, coordinates), piece, out);
-    keep(fed, head, coordinates)
+    };
+    keep(session::feed(s, piece, out), head, coordinates)
 }
 
 #[unsafe(no_mangle)]
@@ -62,11 +64,10 @@ pub extern "C" fn host_session_close(
     head: &mut [u32; HEAD],
     coordinates: &mut [u32; COORDINATES],
 ) -> u32 {
-    if is_no_session(head[2], head[3], head[5]) {
+    let Some(s) = session_of(head, coordinates) else {
         return NO_SESSION;
-    }
-    let closed = session::close(session_of(head, coordinates), out);
-    keep(closed, head, coordinates)
+    };
+    keep(session::close(s, out), head, coordinates)
 }
 
 // The element goes to `element`, where the call is accepted.
@@ -78,55 +79,55 @@ pub extern "C" fn host_session_read(
     coordinates: &mut [u32; COORDINATES],
     element: &mut [u32; 4],
 ) -> u32 {
-    if is_no_session(head[2], head[3], head[5]) {
+    let Some(s) = session_of(head, coordinates) else {
         return NO_SESSION;
-    }
-    let read = session::read(session_of(head, coordinates), place, out);
-    host_answers::give(read, element)
+    };
+    host_answers::give_words(session::read(s, place, out), element)
 }
 
-// The session of these words.
-fn session_of(head: &[u32; HEAD], coordinates: &[u32; COORDINATES]) -> Session {
+// The session of these words; none where a number is no side, weight or truth value.
+fn session_of(head: &[u32; HEAD], coordinates: &[u32; COORDINATES]) -> Option<Session> {
     let plan = Plan {
-        n: size(head[0]),
-        k: size(head[1]),
-        side: side_of(head[2]),
-        weight: weight_of(head[3]),
+        n: head[0] as usize,
+        k: head[1] as usize,
+        side: side_of(head[2])?,
+        weight: weight_of(head[3])?,
         scale: Element {
             c: [head[6], head[7], head[8], head[9]],
         },
         coordinates: *coordinates,
     };
-    Session {
+    Some(Session {
         plan,
-        taken: size(head[4]),
-        closed: head[5] == 1,
-    }
+        taken: head[4] as usize,
+        closed: truth_of(head[5])?,
+    })
 }
 
 // The words become those of the session, where the call was accepted; the answer.
-fn keep(settled: Settled, head: &mut [u32; HEAD], coordinates: &mut [u32; COORDINATES]) -> u32 {
-    let verdict = settled.answer;
-    let answer = verdict.answer();
-    if answer == 0 {
-        let s = settled.session;
-        let point = s.plan.coordinates;
-        *head = head_of(s);
-        *coordinates = point;
+fn keep(
+    given: Result<Session, Refusal>,
+    head: &mut [u32; HEAD],
+    coordinates: &mut [u32; COORDINATES],
+) -> u32 {
+    match given {
+        Err(refusal) => refusal.number(),
+        Ok(s) => {
+            let point = s.plan.coordinates;
+            *head = head_of(&s);
+            *coordinates = point;
+            0
+        }
     }
-    answer
 }
 
-fn head_of(s: Session) -> [u32; HEAD] {
-    let plan = s.plan;
-    let side = plan.side;
-    let weight = plan.weight;
-    let scale = plan.scale.c;
+fn head_of(s: &Session) -> [u32; HEAD] {
+    let scale = s.plan.scale.c;
     [
-        low(plan.n),
-        low(plan.k),
-        side_number(side),
-        weight_number(weight),
+        low(s.plan.n),
+        low(s.plan.k),
+        u8::from(s.plan.side) as u32,
+        u8::from(s.plan.weight) as u32,
         low(s.taken),
         s.closed as u32,
         scale[0],
@@ -136,48 +137,20 @@ fn head_of(s: Session) -> [u32; HEAD] {
     ]
 }
 
-fn is_no_session(side: u32, weight: u32, closed: u32) -> bool {
-    if 1 < side {
-        return true;
-    }
-    if 2 < weight {
-        return true;
-    }
-    1 < closed
+fn side_of(number: u32) -> Option<Side> {
+    Side::try_from(u8::try_from(number).ok()?).ok()
 }
 
-fn side_of(number: u32) -> Side {
+fn weight_of(number: u32) -> Option<Weight> {
+    Weight::try_from(u8::try_from(number).ok()?).ok()
+}
+
+fn truth_of(number: u32) -> Option<bool> {
     match number {
-        0 => Side::Prefix,
-        _ => Side::Suffix,
+        0 => Some(false),
+        1 => Some(true),
+        _ => None,
     }
-}
-
-fn side_number(side: Side) -> u32 {
-    match side {
-        Side::Prefix => 0,
-        Side::Suffix => 1,
-    }
-}
-
-fn weight_of(number: u32) -> Weight {
-    match number {
-        0 => Weight::Plain,
-        1 => Weight::Shifted,
-        _ => Weight::Next,
-    }
-}
-
-fn weight_number(weight: Weight) -> u32 {
-    match weight {
-        Weight::Plain => 0,
-        Weight::Shifted => 1,
-        Weight::Next => 2,
-    }
-}
-
-fn size(word: u32) -> usize {
-    word as usize
 }
 
 // A session's numbers are at most 2^20.

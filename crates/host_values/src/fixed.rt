@@ -1,12 +1,9 @@
 // Fixing a variable: the count of entries that remain is lent.
 ghost use Rattle.std.specs.Prelude.{◌≡◌, [], ◌∷◌};
-ghost use Rattle.fixing.specs.declared.Rule.TheVariants.{Prefix, Suffix, Monomial};
-ghost use Rattle.fixing.specs.Fixing.{remaining_outcome, fix_answer, fix_out, sum_answer, sum_out};
+ghost use Rattle.fixing.specs.Fixing.{Prefix, Suffix, Monomial, fix_answer, fix_out, sum_answer, sum_out};
 ghost use Rattle.host_answers.specs.Host.{element_of, answered, shown};
 
 use field::Element;
-use fixing::Remaining;
-use table::Verdict;
 
 #[unsafe(no_mangle)]
 pub extern "C" fn host_fix_prefix_var_mut(
@@ -24,7 +21,7 @@ pub extern "C" fn host_fix_prefix_var_mut(
     let r = Element {
         c: [r0, r1, r2, r3],
     };
-    give_count(fixing::fix_prefix_var_mut(table, r), count)
+    host_answers::give(fixing::fix_prefix_var_mut(table, r), count)
 }
 
 #[unsafe(no_mangle)]
@@ -43,7 +40,7 @@ pub extern "C" fn host_fix_suffix_var_mut(
     let r = Element {
         c: [r0, r1, r2, r3],
     };
-    give_count(fixing::fix_suffix_var_mut(table, r), count)
+    host_answers::give(fixing::fix_suffix_var_mut(table, r), count)
 }
 
 #[unsafe(no_mangle)]
@@ -62,7 +59,7 @@ pub extern "C" fn host_fix_prefix_var_mut_monomial(
     let r = Element {
         c: [r0, r1, r2, r3],
     };
-    give_count(fixing::fix_prefix_var_mut_monomial(table, r), count)
+    host_answers::give(fixing::fix_prefix_var_mut_monomial(table, r), count)
 }
 
 #[unsafe(no_mangle)]
@@ -70,18 +67,5 @@ pub extern "C" fn host_sum_prefix_var_mut(table: &mut [u32], count: &mut usize) 
     ensures table_after { table.new ≡ sum_out table.old }
     ensures count_after { answered result (count.new ∷ []) ≡ shown (sum_answer table.old) (count.old ∷ []) }
 {
-    give_count(fixing::sum_prefix_var_mut(table), count)
-}
-
-// 0 and the count, or the refusal's number.
-fn give_count(remaining: Remaining, count: &mut usize) -> u32
-    ensures { answered result (count.new ∷ []) ≡ shown (remaining_outcome remaining) (count.old ∷ []) }
-{
-    match remaining {
-        Remaining::Refused(refusal) => Verdict::Refused(refusal).answer(),
-        Remaining::Entries(n) => {
-            *count = n;
-            0
-        }
-    }
+    host_answers::give(fixing::sum_prefix_var_mut(table), count)
 }

@@ -1,6 +1,6 @@
 // Values, fixing, last scalars and split folds for a host program that compares and measures them: words in slices, and 0 or the
 // refusal's number. A scale is four numbers, as in the ward's calls; an answer that is one element is an array of four words.
-#![tactic(auto)]
+#![tactic(auto, using(host_answers::proofs::Showing::shown_listed))]
 
 pub mod fixed;
 
@@ -20,7 +20,7 @@ pub extern "C" fn host_poly_eval_base(table: &[u32], point: &[u32], out: &mut [u
     ensures { answered result out.new
         ≡ shown (poly.eval_base_answer table.now point.now) out.old }
 {
-    host_answers::give(poly::value::eval_base(table, point), out)
+    host_answers::give_words(poly::value::eval_base(table, point), out)
 }
 
 #[unsafe(no_mangle)]
@@ -28,7 +28,7 @@ pub extern "C" fn host_poly_eval_ext(table: &[u32], point: &[u32], out: &mut [u3
     ensures { answered result out.new
         ≡ shown (poly.eval_ext_answer table.now point.now) out.old }
 {
-    host_answers::give(poly::value::eval_ext(table, point), out)
+    host_answers::give_words(poly::value::eval_ext(table, point), out)
 }
 
 #[unsafe(no_mangle)]
@@ -36,7 +36,7 @@ pub extern "C" fn host_poly_eval_next_base(table: &[u32], point: &[u32], out: &m
     ensures { answered result out.new
         ≡ shown (poly.eval_next_base_answer table.now point.now) out.old }
 {
-    host_answers::give(poly::value::eval_next_base(table, point), out)
+    host_answers::give_words(poly::value::eval_next_base(table, point), out)
 }
 
 #[unsafe(no_mangle)]
@@ -58,7 +58,7 @@ pub extern "C" fn host_split_eval_base(
     let scale = Element {
         c: [scale0, scale1, scale2, scale3],
     };
-    host_answers::give(split_eq::value::eval_base(table, point, scale, work), out)
+    host_answers::give_words(split_eq::value::eval_base(table, point, scale, work), out)
 }
 
 #[unsafe(no_mangle)]
@@ -80,7 +80,7 @@ pub extern "C" fn host_split_eval_ext(
     let scale = Element {
         c: [scale0, scale1, scale2, scale3],
     };
-    host_answers::give(split_eq::value::eval_ext(table, point, scale, work), out)
+    host_answers::give_words(split_eq::value::eval_ext(table, point, scale, work), out)
 }
 
 #[unsafe(no_mangle)]
@@ -102,7 +102,7 @@ pub extern "C" fn host_split_eval_next_base(
     let scale = Element {
         c: [scale0, scale1, scale2, scale3],
     };
-    host_answers::give(
+    host_answers::give_words(
         split_eq::value::eval_next_base(table, point, scale, work),
         out,
     )
@@ -126,7 +126,7 @@ pub extern "C" fn host_last_scalar(
     let scale = Element {
         c: [scale0, scale1, scale2, scale3],
     };
-    host_answers::give(split_eq::scalar::last_scalar(point, scale, work), out)
+    host_answers::give_words(split_eq::scalar::last_scalar(point, scale, work), out)
 }
 
 #[unsafe(no_mangle)]
@@ -156,7 +156,7 @@ pub extern "C" fn host_accumulate_into(
     let given = Element {
         c: [given0, given1, given2, given3],
     };
-    split_eq::scalar::accumulate_into(point, scale, given, work, out).answer()
+    table::answer(split_eq::scalar::accumulate_into(point, scale, given, work, out))
 }
 
 #[unsafe(no_mangle)]
@@ -180,7 +180,7 @@ pub extern "C" fn host_compress_prefix(
     let scale = Element {
         c: [scale0, scale1, scale2, scale3],
     };
-    split_eq::fold::compress_prefix(table, point, scale, work, out).answer()
+    table::answer(split_eq::fold::compress_prefix(table, point, scale, work, out))
 }
 
 #[unsafe(no_mangle)]
@@ -204,7 +204,7 @@ pub extern "C" fn host_compress_suffix(
     let scale = Element {
         c: [scale0, scale1, scale2, scale3],
     };
-    split_eq::fold::compress_suffix(table, point, scale, work, out).answer()
+    table::answer(split_eq::fold::compress_suffix(table, point, scale, work, out))
 }
 
 #[unsafe(no_mangle)]
@@ -228,7 +228,7 @@ pub extern "C" fn host_compress_prefix_shifted(
     let scale = Element {
         c: [scale0, scale1, scale2, scale3],
     };
-    split_eq::fold::compress_prefix_shifted(table, point, scale, work, out).answer()
+    table::answer(split_eq::fold::compress_prefix_shifted(table, point, scale, work, out))
 }
 
 #[unsafe(no_mangle)]
@@ -252,5 +252,5 @@ pub extern "C" fn host_compress_suffix_shifted(
     let scale = Element {
         c: [scale0, scale1, scale2, scale3],
     };
-    split_eq::fold::compress_suffix_shifted(table, point, scale, work, out).answer()
+    table::answer(split_eq::fold::compress_suffix_shifted(table, point, scale, work, out))
 }

@@ -5,7 +5,7 @@
 use plan::Plan;
 
 // A plan, and how far its table is taken.
-#[derive(Clone, Copy)]
+#[derive(Clone, Copy, Debug, PartialEq, Eq)]
 pub struct Session {
     pub plan: Plan,
     pub taken: usize,

@@ -7,45 +7,44 @@ ghost use Rattle.ledger.specs.Session.{state, feed_step, close_step};
 ghost use Rattle.session.specs.Settled.{settled};
 
 use ledger::Session;
-use session::Settled;
-use table::Verdict;
+use table::Refusal;
 
 // Adds scale weight word to each word's place, and counts the words.
-pub fn feed(s: &mut Session, piece: &[u32], out: &mut [u32]) -> Verdict
+pub fn feed(s: &mut Session, piece: &[u32], out: &mut [u32]) -> Result<(), Refusal>
     ensures { (answer result, state s.new out.new)
         ≡ feed_step (state s.old out.old) piece.now }
 {
     let was = *s;
-    let fed = session::feed(was, piece, out);
-    s.taken = fed.session.taken;
-    fed.answer
+    let fed = session::feed(was, piece, out)?;
+    s.taken = fed.taken;
+    Ok(())
 }
 
 // Marks the session closed.
-pub fn close(s: &mut Session, out: &[u32]) -> Verdict
+pub fn close(s: &mut Session, out: &[u32]) -> Result<(), Refusal>
     ensures { (answer result, state s.new out.now)
         ≡ close_step (state s.old out.now) }
 {
     let was = *s;
-    let closed = session::close(was, out);
-    s.closed = closed.session.closed;
-    closed.answer
+    let closed = session::close(was, out)?;
+    s.closed = closed.closed;
+    Ok(())
 }
 
 // The lent feed, for a caller that holds the session by value.
-pub fn feed_through(s: Session, piece: &[u32], out: &mut [u32]) -> Settled
-    ensures { settled result out.new ≡ feed_step (state s out.old) piece.now }
+pub fn feed_through(s: Session, piece: &[u32], out: &mut [u32]) -> Result<Session, Refusal>
+    ensures { settled result s out.new ≡ feed_step (state s out.old) piece.now }
 {
     let mut t = s;
-    let answer = feed(&mut t, piece, out);
-    Settled { answer, session: t }
+    feed(&mut t, piece, out)?;
+    Ok(t)
 }
 
 // The lent close, for a caller that holds the session by value.
-pub fn close_through(s: Session, out: &[u32]) -> Settled
-    ensures { settled result out.now ≡ close_step (state s out.now) }
+pub fn close_through(s: Session, out: &[u32]) -> Result<Session, Refusal>
+    ensures { settled result s out.now ≡ close_step (state s out.now) }
 {
     let mut t = s;
-    let answer = close(&mut t, out);
-    Settled { answer, session: t }
+    close(&mut t, out)?;
+    Ok(t)
 }

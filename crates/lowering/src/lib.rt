@@ -19,30 +19,12 @@ const SQUARE: u32 = 1172168163;
 // The field's factor times 2^32, modulo p.
 const RAISED_FACTOR: u32 = 939524073;
 
-// 2^31: what is below 0, wrapped, is not below it. That is a test of one bit, which vectors of words have.
-const SIGN: u32 = 2147483648;
-
-// w 2^32. What `lower` gives is seen to be a word, so that a product with it is one of words in vectors too.
+// w 2^32: w 2^64, divided by 2^32. What `lower` gives is seen to be a word, so that a product with it is one of words in vectors too.
 pub fn raise(w: Element) -> Element
     requires { Reduced w }
     ensures { Holds result (field.mul (from_words w) (base unit)) }
 {
-    Element {
-        c: [
-            raise_word(w.c[0]),
-            raise_word(w.c[1]),
-            raise_word(w.c[2]),
-            raise_word(w.c[3]),
-        ],
-    }
-}
-
-// w 2^64, divided by 2^32.
-fn raise_word(w: u32) -> u32
-    requires { w < p }
-    ensures { result ≡ w * unit % p }
-{
-    lower(word::wide(w, SQUARE))
+    product(w, SQUARE)
 }
 
 // w times the field's factor: w times that and 2^32, divided by 2^32.
@@ -50,21 +32,20 @@ pub fn times_factor(w: Element) -> Element
     requires { Reduced w }
     ensures { Holds result (field.mul (from_words w) (base factor)) }
 {
-    Element {
-        c: [
-            word_times_factor(w.c[0]),
-            word_times_factor(w.c[1]),
-            word_times_factor(w.c[2]),
-            word_times_factor(w.c[3]),
-        ],
-    }
+    product(w, RAISED_FACTOR)
 }
 
-fn word_times_factor(w: u32) -> u32
-    requires { w < p }
-    ensures { result ≡ w * factor % p }
+// w times a base word, divided by 2^32.
+fn product(w: Element, constant: u32) -> Element
+    requires { Reduced w × (constant < p) }
+    ensures { Holds result (field.mul (from_words w) (base (constant * unit_inverse))) }
 {
-    lower(word::wide(w, RAISED_FACTOR))
+    w.map(
+        |a|
+            requires { (a < p) × (constant < p) }
+            ensures { result ≡ a * (constant * unit_inverse) % p }
+        { lower(word::wide(a, constant)) },
+    )
 }
 
 // n / 2^32 modulo p, where n is four products or fewer. m p ends as n does, so n - m p is what stands above 2^32 in both, times 2^32.
@@ -74,18 +55,8 @@ pub fn lower(n: u64) -> u32
 {
     let m = n % word::UNIT * INVERSE % word::UNIT;
     let h = m * (Element::MODULUS as u64) / word::UNIT;
-    less(less((n / word::UNIT) as u32, Element::MODULUS), h as u32)
-}
-
-// a - b modulo p, where the difference is at least -p and below p.
-fn less(a: u32, b: u32) -> u32
-    requires { (a < b + p) × (b ≤ a + p) }
-    ensures { (result < p) × ((result + b) % p ≡ a % p) }
-{
-    let s = std::num::wrapping_sub_u32(a, b);
-    if s < SIGN {
-        s
-    } else {
-        std::num::wrapping_add_u32(s, Element::MODULUS)
-    }
+    word::less(
+        word::less((n / word::UNIT) as u32, Element::MODULUS),
+        h as u32,
+    )
 }

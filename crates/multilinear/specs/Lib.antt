@@ -6,3 +6,4 @@ pub mod Folds
 pub mod Tails
 pub mod Laws
 pub mod Inner
+pub mod Bytes

@@ -1,9 +1,15 @@
 // Definitions and laws over the operations of any ring: equality, successors, values and folds, and the products beside them. The code
-// has the two choices of a fold alone.
+// has the two choices of a fold alone, and the bytes that stand for them.
 #![tactic(auto)]
 
+ghost use Rattle.std.specs.Prelude.{◌≡◌};
+ghost use Rattle.multilinear.specs.Bytes.{side_byte, weight_byte, SideFrom, WeightFrom};
+
+use std::error::Error;
+use std::fmt;
+
 // Which variables of a table a fold sums over.
-#[derive(Clone, Copy)]
+#[derive(Clone, Copy, Debug, PartialEq, Eq)]
 pub enum Side {
     // The first: a row is consecutive words.
     Prefix,
@@ -12,7 +18,7 @@ pub enum Side {
 }
 
 // The weight of a row.
-#[derive(Clone, Copy)]
+#[derive(Clone, Copy, Debug, PartialEq, Eq)]
 pub enum Weight {
     // eq of the row.
     Plain,
@@ -20,4 +26,68 @@ pub enum Weight {
     Shifted,
     // The shifted one, and the last row's own once more.
     Next,
+}
+
+// A byte that stands for no value.
+#[derive(Clone, Copy, Debug, PartialEq, Eq)]
+pub struct UnknownByte(pub u8);
+
+impl fmt::Display for UnknownByte {
+    fn fmt<W: fmt::Write>(&self, f: &mut fmt::Formatter<W>) -> fmt::Result {
+        write!(f, "no value has byte {}", self.0)
+    }
+}
+
+impl Error for UnknownByte {}
+
+impl TryFrom<u8> for Side {
+    type Error = UnknownByte;
+
+    ghost try_from_gives = { SideFrom };
+
+    fn try_from(byte: u8) -> Result<Self, UnknownByte> {
+        match byte {
+            0 => Ok(Side::Prefix),
+            1 => Ok(Side::Suffix),
+            _ => Err(UnknownByte(byte)),
+        }
+    }
+}
+
+impl From<Side> for u8 {
+    ghost from_gives = { λ side byte. byte ≡ side_byte side };
+
+    fn from(side: Side) -> u8 {
+        match side {
+            Side::Prefix => 0,
+            Side::Suffix => 1,
+        }
+    }
+}
+
+impl TryFrom<u8> for Weight {
+    type Error = UnknownByte;
+
+    ghost try_from_gives = { WeightFrom };
+
+    fn try_from(byte: u8) -> Result<Self, UnknownByte> {
+        match byte {
+            0 => Ok(Weight::Plain),
+            1 => Ok(Weight::Shifted),
+            2 => Ok(Weight::Next),
+            _ => Err(UnknownByte(byte)),
+        }
+    }
+}
+
+impl From<Weight> for u8 {
+    ghost from_gives = { λ weight byte. byte ≡ weight_byte weight };
+
+    fn from(weight: Weight) -> u8 {
+        match weight {
+            Weight::Plain => 0,
+            Weight::Shifted => 1,
+            Weight::Next => 2,
+        }
+    }
 }

@@ -1,5 +1,6 @@
 -- A product by the rows of its lines, where what comes back was multiplied by X⁴ before. Assumes nothing.
-use Prim.Native.Nat.{ℕ, ◌+◌, ◌*◌, ◌%◌}
+use Prim.Native.Nat.{ℕ, zero, suc, ◌+◌, ◌*◌, ◌%◌, ◌<◌}
+use native.Mathlib.Omega.{arith}
 use mathlib.Core.Path.{◌≡◌, refl, sym, ap, ◌∙◌}
 use mathlib.Core.Bool.{true}
 use mathlib.Core.List.{[], ◌∷◌}
@@ -17,7 +18,7 @@ use Rattle.field.proofs.Laws.{field_ring, words, read_as, scale_law}
 use Rattle.lowering.specs.Lowering.{unit_inverse}
 use Rattle.lowering.proofs.Laws.{raised_lowered}
 use Rattle.multiplier.specs.declared.Multiplier.{Multiplier}
-use Rattle.multiplier.specs.Ready.{Ready, product_word}
+use Rattle.multiplier.specs.Ready.{product_word}
 
 -- a word of y times X⁴
 abbrev times_factor : Element → ℕ → ℕ
@@ -81,32 +82,23 @@ module _ (m : Multiplier) (x : Element) where
       ∙ ap (field.mul (field.mul e r)) raised_lowered
       ∙ field_ring.mul_one (field.mul e r)
 
-  product_rows : Ready m
-      → numbers p p_pos (lowered_row 0) (lowered_row 1) (lowered_row 2) (lowered_row 3) ≡ field.mul (from_words x) (from_words m.r)
+  product_rows : numbers p p_pos (lowered_row 0) (lowered_row 1) (lowered_row 2) (lowered_row 3) ≡ field.mul (from_words x) (from_words m.r)
   unfolding field base
-  product_rows h =
+  product_rows =
       numbers_scale p p_pos factor (row_sum x m.y m.back 0) (row_sum x m.y m.back 1) (row_sum x m.y m.back 2) (row_sum x m.y m.back 3)
       unit_inverse
       0
       0
       0
       ∙ ap (λ (e : Ext). field.mul e (base unit_inverse))
-      (rows_product x m.y h.raised_back ∙ ap (field.mul (from_words x)) (read_as _ h.raised))
+      (rows_product x m.y m.ready.raised_back ∙ ap (field.mul (from_words x)) (read_as _ m.ready.raised))
       ∙ lowers (from_words x) (from_words m.r)
 
   -- and its words
-  pub word_0 : Ready m → lowered_row 0 % p ≡ product_word x m.r 0
+  pub row_word : (k : ℕ) → k < 4 → lowered_row k % p ≡ product_word x m.r k
   unfolding to_words words_of numbers reduce
-  word_0 h = ap (λ (e : Ext). at (to_words e) 0) (product_rows h)
-
-  pub word_1 : Ready m → lowered_row 1 % p ≡ product_word x m.r 1
-  unfolding to_words words_of numbers reduce
-  word_1 h = ap (λ (e : Ext). at (to_words e) 1) (product_rows h)
-
-  pub word_2 : Ready m → lowered_row 2 % p ≡ product_word x m.r 2
-  unfolding to_words words_of numbers reduce
-  word_2 h = ap (λ (e : Ext). at (to_words e) 2) (product_rows h)
-
-  pub word_3 : Ready m → lowered_row 3 % p ≡ product_word x m.r 3
-  unfolding to_words words_of numbers reduce
-  word_3 h = ap (λ (e : Ext). at (to_words e) 3) (product_rows h)
+  row_word zero h = ap (λ (e : Ext). at (to_words e) 0) product_rows
+  row_word (suc zero) h = ap (λ (e : Ext). at (to_words e) 1) product_rows
+  row_word (suc (suc zero)) h = ap (λ (e : Ext). at (to_words e) 2) product_rows
+  row_word (suc (suc (suc zero))) h = ap (λ (e : Ext). at (to_words e) 3) product_rows
+  row_word (suc (suc (suc (suc k)))) h = absurd (omega arith)

@@ -3,13 +3,12 @@ use Rattle.std.specs.Prelude.{ℕ}
 use Rattle.field.specs.declared.Element.{Element}
 use Rattle.field.specs.Field.{factor, at, Reduced, field, base, to_words, from_words, Holds}
 use Rattle.field.specs.Inner.{unit}
-use Rattle.multiplier.specs.declared.Multiplier.{Multiplier}
 
 -- y is r·2³², and `back` that times X⁴
-pub record Ready (m : Multiplier) : Type 0 where
-  pub by : Reduced m.r
-  pub raised : Holds m.y (field.mul (from_words m.r) (base unit))
-  pub raised_back : Holds m.back (field.mul (from_words m.y) (base factor))
+pub record Ready (r y back : Element) : Type 0 where
+  pub by : Reduced r
+  pub raised : Holds y (field.mul (from_words r) (base unit))
+  pub raised_back : Holds back (field.mul (from_words y) (base factor))
 
 -- word k of x r
 abbrev pub product_word : Element → Element → ℕ → ℕ

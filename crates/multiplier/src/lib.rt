@@ -10,29 +10,29 @@
 // compiler makes vectors; `plus_by` takes r and t as they are, and divides by p.
 #![tactic(auto)]
 
-ghost use Rattle.std.specs.Prelude.{◌≡◌, ◌+◌, ◌-◌, ◌*◌, ◌≤◌, ◌%◌};
+ghost use Rattle.std.specs.Prelude.{◌≡◌, ◌+◌, ◌*◌, ◌%◌, ◌<◌};
 ghost use Rattle.algebra.specs.Ring.{Ops};
 ghost use Rattle.field.specs.Field.{p, factor, Reduced, field, base, from_words, Holds};
-ghost use Rattle.lowering.specs.Lowering.{unit_inverse};
 ghost use Rattle.multiplier.specs.Ready.{Ready, product_word};
 
-use field::product::Sums;
+use field::sums::Sums;
 use field::{Element, product, word};
 
 // The factor r, made ready.
-#[derive(Clone, Copy)]
+#[derive(Clone, Copy, Debug, PartialEq, Eq)]
 pub struct Multiplier {
     pub r: Element,
     // r 2^32.
     pub y: Element,
     // r 2^32 times the field's factor.
     pub back: Element,
+    pub ghost ready: { Ready r y back },
 }
 
 impl Multiplier {
     pub fn new(r: Element) -> Self
         requires { Reduced r }
-        ensures { (result.r ≡ r) × Ready result }
+        ensures { result.r ≡ r }
     {
         let y = lowering::raise(r);
         Multiplier {
@@ -43,71 +43,38 @@ impl Multiplier {
     }
 
     // x r.
+    #[inline(always)]
     pub fn times(self, x: Element) -> Element
-        requires { Ready self × Reduced x }
+        requires { Reduced x }
         ensures { Holds result (field.mul (from_words x) (from_words self.r)) }
     {
         Element {
             c: [
-                self.coordinate_0(x),
-                self.coordinate_1(x),
-                self.coordinate_2(x),
-                self.coordinate_3(x),
+                self.coordinate::<0>(x),
+                self.coordinate::<1>(x),
+                self.coordinate::<2>(x),
+                self.coordinate::<3>(x),
             ],
         }
     }
 
-    // old + x r.
+    // old + x r. Copied into each loop that calls it: as a call it would keep the loop from becoming vectors.
+    #[inline(always)]
     pub fn plus(self, old: Element, x: Element) -> Element
-        requires { Ready self × Reduced x × Reduced old }
+        requires { Reduced x × Reduced old }
         ensures { Holds result (field.add (from_words old) (field.mul (from_words x) (from_words self.r))) }
     {
-        old.add(Element {
-            c: [
-                self.coordinate_0(x),
-                self.coordinate_1(x),
-                self.coordinate_2(x),
-                self.coordinate_3(x),
-            ],
-        })
+        old.add(self.times(x))
     }
 
-    // The coordinates of x r. Each is small enough to be copied into a loop.
-    pub fn coordinate_0(self, x: Element) -> u32
-        requires { Ready self × Reduced x }
-        ensures { result ≡ product_word x self.r 0 }
+    // The coordinate of X^K of x r: its row's sum, divided by 2^32.
+    pub fn coordinate<const K: usize>(self, x: Element) -> u32
+        requires { (K < 4) × Reduced x }
+        ensures { result ≡ product_word x self.r K }
     {
-        lowered(product::lines_0(x, self.y, self.back))
+        let s = product::lines::<K>(x, self.y, self.back);
+        lowering::lower(s.once + s.back)
     }
-
-    pub fn coordinate_1(self, x: Element) -> u32
-        requires { Ready self × Reduced x }
-        ensures { result ≡ product_word x self.r 1 }
-    {
-        lowered(product::lines_1(x, self.y, self.back))
-    }
-
-    pub fn coordinate_2(self, x: Element) -> u32
-        requires { Ready self × Reduced x }
-        ensures { result ≡ product_word x self.r 2 }
-    {
-        lowered(product::lines_2(x, self.y, self.back))
-    }
-
-    pub fn coordinate_3(self, x: Element) -> u32
-        requires { Ready self × Reduced x }
-        ensures { result ≡ product_word x self.r 3 }
-    {
-        lowered(product::lines_3(x, self.y, self.back))
-    }
-}
-
-// A row's sum, divided by 2^32.
-fn lowered(s: Sums) -> u32
-    requires { s.once + s.back ≤ 4 * ((p - 1) * (p - 1)) }
-    ensures { result ≡ (s.once + s.back) * unit_inverse % p }
-{
-    lowering::lower(s.once + s.back)
 }
 
 // old + x r, of a factor of which r and t are kept alone.
@@ -117,17 +84,16 @@ pub fn plus_by(old: Element, x: Element, r: Element, t: Element) -> Element
 {
     Element {
         c: [
-            added(old.c[0], product::lines_0(x, r, t)),
-            added(old.c[1], product::lines_1(x, r, t)),
-            added(old.c[2], product::lines_2(x, r, t)),
-            added(old.c[3], product::lines_3(x, r, t)),
+            added(old.c[0], product::lines::<0>(x, r, t)),
+            added(old.c[1], product::lines::<1>(x, r, t)),
+            added(old.c[2], product::lines::<2>(x, r, t)),
+            added(old.c[3], product::lines::<3>(x, r, t)),
         ],
     }
 }
 
 // A row's sum added to a word, divided by p: a u64 holds a word and four products.
 fn added(old: u32, s: Sums) -> u32
-    requires { s.once + s.back ≤ 4 * ((p - 1) * (p - 1)) }
     ensures { result ≡ (old + (s.once + s.back)) % p }
 {
     word::residue((old as u64) + (s.once + s.back))

@@ -1,15 +1,65 @@
--- Number and words determine the answer of `eval_next`. Assumes nothing.
-use mathlib.Core.Path.{◌≡◌, sym, ap}
-use Rattle.table.specs.Refusals.{Outcome}
-use Rattle.table.proofs.Answers.{number_one, number_some, value_at}
-use Rattle.next.specs.declared.Next.{Next}
-use Rattle.next.specs.declared.Next.TheVariants as next
-use Rattle.next.specs.Next.{next_outcome}
+-- Number and words of the answer of `eval_next`: those of its elements, and they determine it. Assumes nothing.
+use mathlib.Core.Path.{◌≡◌, refl, sym, ap, ap₂, ◌∙◌}
+use native.Mathlib.Omega.{arith}
+use mathlib.Core.List.{List, [], ◌∷◌, ◌++◌}
+use Prim.Native.Nat.{ℕ}
+use lib.ListN.{length, get_or, drop}
+use Rattle.std.proofs.Common.{length-append}
+use Rattle.std.specs.Prelude.{Result, Ok, Err}
+use Rattle.multilinear.specs.Successors.{NextParts}
+use Rattle.field.specs.Field.{Ext, to_words}
+use Rattle.table.specs.Refusals.{number, Outcome, given}
+use Rattle.table.specs.declared.Refusal.{Refusal}
+use Rattle.table.proofs.Answers.{number_one, number_some}
+use Rattle.table.proofs.Outcomes.{refused_given, accepted_given}
+use Rattle.field.specs.declared.Element.{Element}
+use Rattle.next.specs.declared.Parts.{Parts}
+use Rattle.next.specs.Inner.{HoldParts}
+use Rattle.next.specs.Next.{next_outcome, part_words}
 
-pub next_one : (a b : Next) → next_outcome a ≡ next_outcome b → a ≡ b
-unfolding value_at
-next_one (next.Parts c d o) (next.Parts c' d' o') e =
-    ap (λ (x : Outcome). next.Parts (value_at 0 x.words) (value_at 4 x.words) (value_at 8 x.words)) e
-next_one (next.Parts c d o) (next.Refused s) e = absurd (number_some s (ap (λ (x : Outcome). x.number) e))
-next_one (next.Refused r) (next.Parts c d o) e = absurd (number_some r (sym (ap (λ (x : Outcome). x.number) e)))
-next_one (next.Refused r) (next.Refused s) e = ap next.Refused (number_one r s (ap (λ (x : Outcome). x.number) e))
+pub refused_next : (n : ℕ) (r : Refusal) → number r ≡ n → (x : NextParts Ext) → next_outcome (Err r) ≡ given n (part_words x)
+refused_next n r h x = refused_given n r h (part_words x)
+
+pub accepted_next : (n : ℕ) → 0 ≡ n → (x : NextParts Ext) (e : Parts) → HoldParts e x → next_outcome (Ok e) ≡ given n (part_words x)
+unfolding to_words
+accepted_next n h x e d = rw (d.carry_is.words, d.done_is.words, d.omega_is.words) (accepted_given n h (part_words x))
+
+pub ruleset next_outcomes = (refused_next, accepted_next)
+
+-- each element has its four words
+abbrev pub FourWords : Result Parts Refusal → Type 0
+FourWords (Ok x) = (length x.carry.c ≡ 4) × (length x.done.c ≡ 4) × (length x.omega.c ≡ 4)
+FourWords (Err r) = Unit
+
+-- lists of one length in front of others
+fronts : (xs ys us vs : List ℕ) → length xs ≡ length ys → xs ++ us ≡ ys ++ vs → (xs ≡ ys) × (us ≡ vs)
+fronts [] [] us vs h e = (refl, e)
+fronts [] (y ∷ ys) us vs h e = absurd (omega (arith, h))
+fronts (x ∷ xs) [] us vs h e = absurd (omega (arith, h))
+fronts (x ∷ xs) (y ∷ ys) us vs h e =
+    let q : length xs ≡ length ys = omega (arith, h) in
+    let r = fronts xs ys us vs q (ap (drop 1) e) in
+    (ap₂ (λ (a : ℕ) (l : List ℕ). a ∷ l) (ap (λ (l : List ℕ). get_or l 0 0) e) r.0, r.1)
+
+abbrev one_of : List ℕ → Element
+one_of ws = record { c = ws }
+
+three : (x y : Parts) → FourWords (Ok x) → FourWords (Ok y) → x.carry.c ++ x.done.c ++ x.omega.c ≡ y.carry.c ++ y.done.c ++ y.omega.c
+    → x ≡ y
+three x y h k e =
+    let l : length (x.carry.c ++ x.done.c) ≡ length (y.carry.c ++ y.done.c) = rw (length-append, length-append, h.0, h.1, k.0, k.1) in
+    let a = fronts (x.carry.c ++ x.done.c) (y.carry.c ++ y.done.c) x.omega.c y.omega.c l e in
+    let b = fronts x.carry.c y.carry.c x.done.c y.done.c (h.0 ∙ sym k.0) a.0 in
+    let ec : x.carry ≡ y.carry = ap one_of b.0 in
+    let ed : x.done ≡ y.done = ap one_of b.1 in
+    let eo : x.omega ≡ y.omega = ap one_of a.1 in
+    ap₂ (λ (d : Element) (o : Element). let p : Parts = record { carry = x.carry; done = d; omega = o } in p) ed eo
+    ∙ ap (λ (c : Element). let p : Parts = record { carry = c; done = y.done; omega = y.omega } in p) ec
+
+pub next_one : (a b : Result Parts Refusal) → FourWords a → FourWords b → next_outcome a ≡ next_outcome b → a ≡ b
+next_one (Ok x) (Ok y) h k e =
+    let w : x.carry.c ++ x.done.c ++ x.omega.c ≡ y.carry.c ++ y.done.c ++ y.omega.c = ap (λ (o : Outcome). o.words) e in
+    ap Ok (three x y h k w)
+next_one (Ok x) (Err s) h k e = absurd (number_some s (ap (λ (o : Outcome). o.number) e))
+next_one (Err r) (Ok y) h k e = absurd (number_some r (sym (ap (λ (o : Outcome). o.number) e)))
+next_one (Err r) (Err s) h k e = ap Err (number_one r s (ap (λ (o : Outcome). o.number) e))

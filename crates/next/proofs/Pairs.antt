@@ -2,22 +2,19 @@
 use mathlib.Core.Path.{◌≡◌}
 use Prim.Native.Nat.{ℕ, ◌-◌, ◌≤◌, ◌<◌}
 use native.Mathlib.Omega.{arith}
-use mathlib.Core.List.{List, [], ◌∷◌, ◌++◌}
+use mathlib.Core.List.{List, [], ◌∷◌}
 use Rattle.algebra.specs.Ring.{minus}
 use Rattle.algebra.proofs.Reading.{reading, ring}
 use Rattle.multilinear.specs.Equality.{agreement}
 use Rattle.multilinear.specs.Successors.{NextParts, eval_next, done_step, carry_step}
 use Rattle.multilinear.specs.Beside.{eval_eq}
-use Rattle.field.specs.Field.{Ext, field, from_words, value_of, Holds}
+use Rattle.field.specs.Field.{Ext, field, from_words, Holds}
 use Rattle.field.specs.declared.Element.{Element}
-use Rattle.field.specs.declared.Value.{Value}
 use Rattle.field.proofs.Laws.{field_ring, read_as}
 use Rattle.table.specs.Table.{element_at, elements}
-use Rattle.table.specs.Refusals.{given}
-use Rattle.table.proofs.Outcomes.{value_words_lem}
+use Rattle.next.specs.declared.Parts.{Parts}
+use Rattle.next.specs.Inner.{HoldParts}
 use Rattle.point.proofs.Rest.{rest, rest_none, rest_more, rest_all}
-use Rattle.next.specs.declared.Next.TheVariants as next
-use Rattle.next.specs.Next.{next_outcome, part_words}
 
 -- what is settled and what is carried, by the product of a pair
 pub settled_by : (s t carry : Ext) → field.mul (minus field t (field.mul s t)) carry ≡ field.mul (field.mul (minus field field.one s) t) carry
@@ -89,16 +86,11 @@ module _ (ps rs : List ℕ) (k j : ℕ) (h : 0 < j) {s t : Element}
         omega_is = rw (p, r) (rw (read_as _ b, read_as _ e₁, read_as _ e₂, read_as _ d.omega_is) at e₅);
       }
 
-joined : {a b c a' b' c' : List ℕ} → a ≡ a' → b ≡ b' → c ≡ c' → given 0 (a ++ b ++ c) ≡ given 0 (a' ++ b' ++ c')
-joined e₁ e₂ e₃ = rw (e₁, e₂, e₃)
-
 module _ (ps rs : List ℕ) (k j : ℕ) (z : j ≡ 0) where
   pub agreed_finish : {product : Element} → Agreed ps rs k j product → Holds product (eval_eq field (elements ps 0 k) (elements rs 0 k))
   agreed_finish d = rw (rest_all ps k j z, rest_all rs k j z) at d.product_is
 
-  pub next_finish : {carry done last : Element} → Nexting ps rs k j carry done last
-      → {a b c : Value} → a ≡ value_of carry → b ≡ value_of done → c ≡ value_of last
-      → next_outcome (next.Parts a b c) ≡ given 0 (part_words (eval_next field (elements ps 0 k) (elements rs 0 k)))
-  next_finish d e₁ e₂ e₃ =
+  pub next_finish : {e : Parts} → Nexting ps rs k j e.carry e.done e.omega → HoldParts e (eval_next field (elements ps 0 k) (elements rs 0 k))
+  next_finish d =
       rw (← rest_all ps k j z, ← rest_all rs k j z)
-      (joined (value_words_lem _ d.carry_is e₁) (value_words_lem _ d.done_is e₂) (value_words_lem _ d.omega_is e₃))
+      (record { carry_is = d.carry_is; done_is = d.done_is; omega_is = d.omega_is })

@@ -1,13 +1,13 @@
 -- Operations on two points (document 01, "Successors", "Beside these", and their refused calls). Assumes nothing.
-use Rattle.std.specs.Prelude.{ℕ, not, List, [], ◌∷◌, ◌++◌, eqb}
+use Rattle.std.specs.Prelude.{ℕ, not, List, [], ◌∷◌, ◌++◌, eqb, Result, Ok, Err}
 use Rattle.algebra.specs.Words.{words_of, unreduced}
 use Rattle.multilinear.specs.Successors.{NextParts, eval_next}
 use Rattle.multilinear.specs.Beside.{eval_eq}
 use Rattle.field.specs.Field.{p, Ext, field}
 use Rattle.table.specs.Table.{entries, point_of}
-use Rattle.table.specs.Refusals.{number, Outcome, alone, value_words, Test, ◌gives◌, verdict, given, evaluated, splits, too_many}
-use Rattle.next.specs.declared.Next.{Next}
-use Rattle.next.specs.declared.Next.TheVariants as next
+use Rattle.table.specs.Refusals.{number, Outcome, alone, Test, ◌gives◌, verdict, given, evaluated, splits, too_many}
+use Rattle.table.specs.declared.Refusal.{Refusal}
+use Rattle.next.specs.declared.Parts.{Parts}
 
 -- `eval_eq`, `eval_next`: 1, 3, 4, 5
 abbrev pub pair_tests : List ℕ → List ℕ → List Test
@@ -24,10 +24,10 @@ pair_tests point other =
 unfoldable pub eval_eq_answer : List ℕ → List ℕ → Outcome
 eval_eq_answer point other = evaluated (verdict (pair_tests point other)) (eval_eq field (point_of point) (point_of other))
 
--- number and words of a `Next`
-abbrev pub next_outcome : Next → Outcome
-next_outcome (next.Parts carry done omega) = record { number = 0; words = value_words carry ++ value_words done ++ value_words omega }
-next_outcome (next.Refused r) = alone (number r)
+-- number and words of the answer: the three elements' words, or the number alone
+abbrev pub next_outcome : Result Parts Refusal → Outcome
+next_outcome (Ok x) = record { number = 0; words = x.carry.c ++ x.done.c ++ x.omega.c }
+next_outcome (Err r) = alone (number r)
 
 -- carry, done and omega
 abbrev pub part_words : NextParts Ext → List ℕ

@@ -8,57 +8,51 @@ ghost use Rattle.multilinear.specs.Successors.{eval_next, done_step};
 ghost use Rattle.multilinear.specs.Beside.{eval_eq};
 ghost use Rattle.field.specs.Field.{field, from_words, Reduced, Holds};
 ghost use Rattle.table.specs.Table.{elements};
-ghost use Rattle.table.specs.Refusals.{answer, outcome, given, verdict};
+ghost use Rattle.table.specs.Refusals.{answer, outcome, verdict};
 ghost use Rattle.point.specs.Coordinates.{Coordinates};
-ghost use Rattle.next.specs.Next.{pair_tests, eval_eq_answer, eval_next_answer, next_outcome, part_words};
-ghost use Rattle.next.specs.Inner.{Paired};
+ghost use Rattle.next.specs.Next.{pair_tests, eval_eq_answer, eval_next_answer, next_outcome};
+ghost use Rattle.next.specs.Inner.{Paired, HoldParts};
 
-use field::{Element, Value};
-use table::{Evaluation, Refusal, Verdict};
+use field::Element;
+use table::Refusal;
 
+// What the successor tables of a point give at a second one.
 #[derive(Clone, Copy)]
-pub enum Next {
-    Parts {
-        carry: Value,
-        done: Value,
-        omega: Value,
-    },
-    Refused(Refusal),
+pub struct Parts {
+    pub carry: Element,
+    pub done: Element,
+    pub omega: Element,
 }
 
 // The product of 2pq - p - q + 1 over the pairs of coordinates.
-pub fn eval_eq(point: &[u32], other: &[u32]) -> Evaluation
+#[tactic(auto, using(table::proofs::Outcomes::outcomes), unfolding(crate::specs::Next::eval_eq_answer))]
+pub fn eval_eq(point: &[u32], other: &[u32]) -> Result<Element, Refusal>
     ensures { outcome result ≡ eval_eq_answer point.now other.now }
 {
-    let tested = test_pair(point, other);
-    match tested {
-        Verdict::Refused(refusal) => Evaluation::Refused(refusal),
-        Verdict::Accepted => Evaluation::Value(agreements(point, other, point.len() / 4).value()),
-    }
+    test_pair(point, other)?;
+    Ok(agreements(point, other, point.len() / 4))
 }
 
 // carry, done and omega of two points.
-pub fn eval_next(point: &[u32], other: &[u32]) -> Next
+#[tactic(auto, using(crate::proofs::Answers::next_outcomes), unfolding(crate::specs::Next::eval_next_answer))]
+pub fn eval_next(point: &[u32], other: &[u32]) -> Result<Parts, Refusal>
     ensures { next_outcome result ≡ eval_next_answer point.now other.now }
 {
-    let tested = test_pair(point, other);
-    match tested {
-        Verdict::Refused(refusal) => Next::Refused(refusal),
-        Verdict::Accepted => next_parts(point, other, point.len() / 4),
-    }
+    test_pair(point, other)?;
+    Ok(next_parts(point, other, point.len() / 4))
 }
 
-fn test_pair(point: &[u32], other: &[u32]) -> Verdict
+#[tactic(auto, using(table::proofs::Verdicts::tests))]
+fn test_pair(point: &[u32], other: &[u32]) -> Result<(), Refusal>
     ensures { answer result ≡ verdict (pair_tests point.now other.now) }
 {
-    Verdict::Accepted
-        .refuse_if(table::splits(point), Refusal::Split)
-        .refuse_if(table::splits(other), Refusal::Split)
-        .refuse_if(table::too_many(point), Refusal::TooMany)
-        .refuse_if(table::too_many(other), Refusal::TooMany)
-        .refuse_if(table::lengths_differ(point, other), Refusal::Lengths)
-        .refuse_if(field::unreduced(point), Refusal::Unreduced)
-        .refuse_if(field::unreduced(other), Refusal::Unreduced)
+    table::refuse_if(table::splits(point), Refusal::Split)?;
+    table::refuse_if(table::splits(other), Refusal::Split)?;
+    table::refuse_if(table::too_many(point), Refusal::TooMany)?;
+    table::refuse_if(table::too_many(other), Refusal::TooMany)?;
+    table::refuse_if(table::lengths_differ(point, other), Refusal::Lengths)?;
+    table::refuse_if(field::unreduced(point), Refusal::Unreduced)?;
+    table::refuse_if(field::unreduced(other), Refusal::Unreduced)
 }
 
 fn agreements(point: &[u32], other: &[u32], k: usize) -> Element
@@ -66,9 +60,7 @@ fn agreements(point: &[u32], other: &[u32], k: usize) -> Element
     ensures { Holds result (eval_eq field (elements point.now 0 k) (elements other.now 0 k)) }
 {
     let mut product = Element::one();
-    let mut j = k;
-    while 0 < j {
-        j -= 1;
+    for j in (0..k).rev() {
         let s = table::read(point, j);
         let t = table::read(other, j);
         product = agree(s, t, s.mul(t)).mul(product);
@@ -78,17 +70,14 @@ fn agreements(point: &[u32], other: &[u32], k: usize) -> Element
 
 // From the last pair, which goes with the lowest bit, back to coordinate 0. The product st of a pair serves every step: five products a
 // pair.
-fn next_parts(point: &[u32], other: &[u32], k: usize) -> Next
+fn next_parts(point: &[u32], other: &[u32], k: usize) -> Parts
     requires { Coordinates k point.now × Coordinates k other.now }
-    ensures { next_outcome result
-        ≡ given 0 (part_words (eval_next field (elements point.now 0 k) (elements other.now 0 k))) }
+    ensures { HoldParts result (eval_next field (elements point.now 0 k) (elements other.now 0 k)) }
 {
     let mut carry = Element::one();
     let mut done = Element::zero();
     let mut omega = Element::one();
-    let mut j = k;
-    while 0 < j {
-        j -= 1;
+    for j in (0..k).rev() {
         let s = table::read(point, j);
         let t = table::read(other, j);
         let both = s.mul(t);
@@ -96,11 +85,7 @@ fn next_parts(point: &[u32], other: &[u32], k: usize) -> Next
         carry = carry_step(s, both, carry);
         omega = both.mul(omega);
     }
-    Next::Parts {
-        carry: carry.value(),
-        done: done.value(),
-        omega: omega.value(),
-    }
+    Parts { carry, done, omega }
 }
 
 // 2st - s - t + 1, where both is st.

@@ -5,9 +5,7 @@
 #![tactic(auto)]
 
 ghost use Rattle.std.specs.Prelude.{◌≡◌, ◌+◌, ◌*◌, ◌≤◌, ◌<◌, length, take, drop};
-ghost use Rattle.std.proofs.lemmas.List.Edits.{sets};
 ghost use Rattle.octets.specs.Octets.{word_at, words, octets};
-ghost use Rattle.octets.specs.Inner.{four_of};
 
 // Word i of bytes.
 pub fn word_at(bytes: &[u8], i: usize) -> u32
@@ -15,16 +13,7 @@ pub fn word_at(bytes: &[u8], i: usize) -> u32
     ensures { result ≡ word_at bytes.now i }
 {
     let b = 4 * i;
-    wide(bytes[b])
-        + wide(bytes[b + 1]) * 256
-        + wide(bytes[b + 2]) * 65536
-        + wide(bytes[b + 3]) * 16777216
-}
-
-fn wide(b: u8) -> u32
-    ensures { (result ≡ b) × (result < 256) }
-{
-    b as u32
+    u32::from_le_bytes([bytes[b], bytes[b + 1], bytes[b + 2], bytes[b + 3]])
 }
 
 // Fills ws with the words of bytes from word `from` on.
@@ -42,19 +31,7 @@ pub fn encode(ws: &[u32], bytes: &mut [u8])
     requires { length bytes.old ≡ 4 * length ws.now }
     ensures { bytes.new ≡ octets ws.now }
 {
-    for i in 0..ws.len() {
-        put_word(bytes, i, ws[i]);
+    for (i, w) in ws.iter().enumerate() {
+        bytes[4 * i..4 * i + 4].copy_from_slice(&w.to_le_bytes());
     }
-}
-
-// Word i of bytes becomes w.
-fn put_word(bytes: &mut [u8], i: usize, w: u32)
-    requires { 4 * i + 3 < length bytes.old }
-    ensures { bytes.new ≡ sets bytes.old (4 * i) (four_of w) }
-{
-    let b = 4 * i;
-    bytes[b] = (w % 256) as u8;
-    bytes[b + 1] = (w / 256 % 256) as u8;
-    bytes[b + 2] = (w / 65536 % 256) as u8;
-    bytes[b + 3] = (w / 16777216) as u8;
 }

@@ -13,7 +13,7 @@ use multilinear::{Side, Weight};
 // The words of the most coordinates.
 pub const WORDS: usize = 4 * table::MOST;
 
-#[derive(Clone, Copy)]
+#[derive(Clone, Copy, Debug, PartialEq, Eq)]
 pub struct Plan {
     pub n: usize,
     pub k: usize,

@@ -15,10 +15,10 @@ ghost use Rattle.point.specs.Coordinates.{Coordinates};
 
 use field::Element;
 use multiplier::Multiplier;
-use table::{Evaluation, Refusal, Verdict};
+use table::Refusal;
 
 // Which end of a point goes with the highest bit of a row number.
-#[derive(Clone, Copy)]
+#[derive(Clone, Copy, Debug, PartialEq, Eq)]
 pub enum BitOrder {
     // Coordinate 0 goes with the highest bit.
     Msb,
@@ -27,65 +27,59 @@ pub enum BitOrder {
 }
 
 // eq[vertex].
-pub fn equality_at_vertex(point: &[u32], vertex: usize) -> Evaluation
+#[tactic(auto, using(table::proofs::Outcomes::outcomes), unfolding(crate::specs::Point::vertex_answer))]
+pub fn equality_at_vertex(point: &[u32], vertex: usize) -> Result<Element, Refusal>
     ensures { outcome result ≡ vertex_answer point.now vertex }
 {
-    let tested = test_vertex(point, vertex);
-    match tested {
-        Verdict::Refused(refusal) => Evaluation::Refused(refusal),
-        Verdict::Accepted => Evaluation::Value(at_row(point, point.len() / 4, vertex).value()),
-    }
+    test_vertex(point, vertex)?;
+    Ok(at_row(point, point.len() / 4, vertex))
 }
 
 // out becomes the table of eq.
-pub fn equality_table(point: &[u32], order: BitOrder, out: &mut [u32]) -> Verdict
+#[tactic(auto, using(table::proofs::Outcomes::outcomes), unfolding(crate::specs::Point::equality_out))]
+pub fn equality_table(point: &[u32], order: BitOrder, out: &mut [u32]) -> Result<(), Refusal>
     ensures result_value { answer result ≡ table_answer point.now out.old }
     ensures out_after { out.new ≡ equality_out order point.now out.old }
 {
-    let tested = test_table(point, out);
-    match tested {
-        Verdict::Refused(refusal) => Verdict::Refused(refusal),
-        Verdict::Accepted => {
-            fill(out, point, point.len() / 4, order, Element::one());
-            Verdict::Accepted
-        }
-    }
+    test_table(point, out)?;
+    fill(out, point, point.len() / 4, order, Element::one());
+    Ok(())
 }
 
-pub fn equality_weights_msb(point: &[u32], out: &mut [u32]) -> Verdict
+pub fn equality_weights_msb(point: &[u32], out: &mut [u32]) -> Result<(), Refusal>
     ensures result_value { answer result ≡ table_answer point.now out.old }
     ensures out_after { out.new ≡ equality_out Msb point.now out.old }
 {
     equality_table(point, BitOrder::Msb, out)
 }
 
-pub fn equality_weights_lsb(point: &[u32], out: &mut [u32]) -> Verdict
+pub fn equality_weights_lsb(point: &[u32], out: &mut [u32]) -> Result<(), Refusal>
     ensures result_value { answer result ≡ table_answer point.now out.old }
     ensures out_after { out.new ≡ equality_out Lsb point.now out.old }
 {
     equality_table(point, BitOrder::Lsb, out)
 }
 
-fn test_vertex(point: &[u32], vertex: usize) -> Verdict
+#[tactic(auto, using(table::proofs::Verdicts::tests))]
+fn test_vertex(point: &[u32], vertex: usize) -> Result<(), Refusal>
     ensures { answer result ≡ verdict (vertex_tests point.now vertex) }
 {
-    Verdict::Accepted
-        .refuse_if(table::splits(point), Refusal::Split)
-        .refuse_if(table::too_many(point), Refusal::TooMany)
-        .refuse_if(field::unreduced(point), Refusal::Unreduced)
-        .refuse_if(is_beyond(vertex, point.len() / 4), Refusal::NoVertex)
+    table::refuse_if(table::splits(point), Refusal::Split)?;
+    table::refuse_if(table::too_many(point), Refusal::TooMany)?;
+    table::refuse_if(field::unreduced(point), Refusal::Unreduced)?;
+    table::refuse_if(is_beyond(vertex, point.len() / 4), Refusal::NoVertex)
 }
 
 // The tests of every table of a point.
-pub fn test_table(point: &[u32], out: &[u32]) -> Verdict
+#[tactic(auto, using(table::proofs::Verdicts::tests), unfolding(crate::specs::Point::table_answer))]
+pub fn test_table(point: &[u32], out: &[u32]) -> Result<(), Refusal>
     ensures { answer result ≡ table_answer point.now out.now }
 {
-    Verdict::Accepted
-        .refuse_if(table::splits(point), Refusal::Split)
-        .refuse_if(table::splits(out), Refusal::Split)
-        .refuse_if(table::too_many(point), Refusal::TooMany)
-        .refuse_if(table::rows_differ(out, point.len() / 4), Refusal::Lengths)
-        .refuse_if(field::unreduced(point), Refusal::Unreduced)
+    table::refuse_if(table::splits(point), Refusal::Split)?;
+    table::refuse_if(table::splits(out), Refusal::Split)?;
+    table::refuse_if(table::too_many(point), Refusal::TooMany)?;
+    table::refuse_if(table::rows_differ(out, point.len() / 4), Refusal::Lengths)?;
+    table::refuse_if(field::unreduced(point), Refusal::Unreduced)
 }
 
 // The vertex is at or above 2^k.
@@ -116,13 +110,11 @@ pub fn at_row(point: &[u32], k: usize, row: usize) -> Element
 {
     let mut product = Element::one();
     let mut left = row;
-    let mut j = k;
-    while 0 < j {
-        j -= 1;
+    for j in (0..k).rev() {
         let c = table::read(point, j);
         let f = for_bit(left % 2, c);
         product = f.mul(product);
-        left = left / 2;
+        left /= 2;
     }
     product
 }
@@ -134,12 +126,10 @@ pub fn from_row(point: &[u32], k: usize, row: usize) -> Element
 {
     let mut sum = Element::one();
     let mut left = row;
-    let mut j = k;
-    while 0 < j {
-        j -= 1;
+    for j in (0..k).rev() {
         let c = table::read(point, j);
         sum = tail_step(left % 2, c, sum);
-        left = left / 2;
+        left /= 2;
     }
     sum
 }

@@ -9,27 +9,25 @@ ghost use Rattle.point.specs.Point.{select_tests, eval_select_answer};
 ghost use Rattle.point.specs.Coordinates.{Coordinates};
 
 use field::Element;
-use table::{Evaluation, Refusal, Verdict};
+use table::Refusal;
 
 // The sum of eq[y] var^y.
-pub fn eval_select(var: u32, point: &[u32]) -> Evaluation
+#[tactic(auto, using(table::proofs::Outcomes::outcomes), unfolding(crate::specs::Point::eval_select_answer))]
+pub fn eval_select(var: u32, point: &[u32]) -> Result<Element, Refusal>
     ensures { outcome result ≡ eval_select_answer var point.now }
 {
-    let tested = test_select(var, point);
-    match tested {
-        Verdict::Refused(refusal) => Evaluation::Refused(refusal),
-        Verdict::Accepted => Evaluation::Value(selection(var, point, point.len() / 4).value()),
-    }
+    test_select(var, point)?;
+    Ok(selection(var, point, point.len() / 4))
 }
 
-fn test_select(var: u32, point: &[u32]) -> Verdict
+#[tactic(auto, using(table::proofs::Verdicts::tests))]
+fn test_select(var: u32, point: &[u32]) -> Result<(), Refusal>
     ensures { answer result ≡ verdict (select_tests var point.now) }
 {
-    Verdict::Accepted
-        .refuse_if(table::splits(point), Refusal::Split)
-        .refuse_if(table::too_many(point), Refusal::TooMany)
-        .refuse_if(field::unreduced(point), Refusal::Unreduced)
-        .refuse_if(Element::MODULUS <= var, Refusal::Unreduced)
+    table::refuse_if(table::splits(point), Refusal::Split)?;
+    table::refuse_if(table::too_many(point), Refusal::TooMany)?;
+    table::refuse_if(field::unreduced(point), Refusal::Unreduced)?;
+    table::refuse_if(Element::MODULUS <= var, Refusal::Unreduced)
 }
 
 // A factor for each coordinate, from the last back to coordinate 0, while var is squared.
@@ -39,9 +37,7 @@ fn selection(var: u32, point: &[u32], k: usize) -> Element
 {
     let mut product = Element::one();
     let mut power = var;
-    let mut j = k;
-    while 0 < j {
-        j -= 1;
+    for j in (0..k).rev() {
         let f = select_factor(power, table::read(point, j));
         product = f.mul(product);
         power = field::word::mul(power, power);

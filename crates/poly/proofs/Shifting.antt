@@ -1,65 +1,47 @@
--- The loop of `shift`: how it starts, steps and ends. Assumes nothing.
+-- The n elements of a table, each a place further: what `copy_within` leaves. Assumes nothing.
 use mathlib.Core.Path.{◌≡◌, refl, sym, ap, ◌∙◌}
-use Prim.Native.Nat.{ℕ, suc, ◌-◌, ◌*◌, ◌≤◌, ◌<◌}
-use native.Mathlib.Decide.{dec_lt}
+use Prim.Native.Nat.{ℕ, suc, ◌+◌, ◌-◌, ◌*◌, ◌≤◌, ◌<◌}
 use native.Mathlib.Omega.{arith}
 use mathlib.Core.List.{List}
-use lib.ListN.{length}
-use Rattle.field.specs.declared.Element.{Element}
-use Rattle.table.specs.Table.{get_at, put_at}
-use Rattle.table.proofs.Laws.{length_put, get_put_other, get_put_same}
-use Rattle.poly.specs.Inner.{Shifted}
-use Rattle.table.proofs.Laws.{get_size}
+use lib.ListN.{length, get_or, take}
+use lib.Seq.{paste, length-paste, take-paste}
+use Rattle.std.proofs.lemmas.List.{length-take-le, get_or-take, get_or-append_right}
+use Rattle.std.specs.List.{copy_within}
+use Rattle.table.specs.Table.{get_at}
 
--- at the loop's head elements i - 1 to n - 2 are moved
-pub record Shifting (i n : ℕ) (ws w : List ℕ) : Type 0 where
-  pub within : i ≤ n
-  pub done : Shifted (i - 1) n ws w
+-- of the n elements of ws all but the last stand one place further in w
+pub record Shifted (n : ℕ) (ws w : List ℕ) : Type 0 where
+  pub len : length w ≡ length ws
+  pub moved : (y : ℕ) → suc y < n → get_at w (suc y) ≡ get_at ws y
 
-pub start : (n : ℕ) (ws : List ℕ) → Shifting n n ws ws
-start n ws =
-    record {
-      within = omega arith;
-      done = record { len = refl; moved = λ y a b. absurd (omega arith); kept = λ y h. refl };
-    }
+-- `count` words of ws stand four places further
+module _ (ws : List ℕ) (count : ℕ) (h : 4 + count ≤ length ws) where
+  front : length (take 4 ws) ≡ 4
+  front = length-take-le 4 ws (omega arith)
 
-module _ (i n : ℕ) (ws w : List ℕ) (s : Shifting i n ws w) (more : 1 < i) (room : 4 * n ≤ length ws) where
-  abbrev j : ℕ
-  j = i - 1
+  pasted : (i j : ℕ) → i < count → j ≡ 4 + i → get_or (paste ws 4 ws count) j 0 ≡ get_or ws i 0
+  pasted i j b q =
+      let r : j - 4 ≡ i = omega arith in
+      sym (get_or-take (4 + count) (paste ws 4 ws count) j 0 (omega arith))
+      ∙ ap (λ l. get_or l j 0) (take-paste ws 4 ws count (omega arith) (omega arith))
+      ∙ get_or-append_right (take 4 ws) (take count ws) 4 j 0 front (omega arith)
+      ∙ ap (λ m. get_or (take count ws) m 0) r
+      ∙ get_or-take count ws i 0 b
 
-  abbrev e : Element
-  e = get_at w (j - 1)
-
-  -- the turn copies element j - 1 to place j
-  here : get_at (put_at w j e) j ≡ get_at ws (j - 1)
-  here = get_put_same w j e (omega (arith, s.done.len)) (get_size w (j - 1)) ∙ s.done.kept (j - 1) (omega arith)
-
-  moved : (y : ℕ) → j - 1 ≤ y → suc y < n → get_at (put_at w j e) (suc y) ≡ get_at ws y
-  moved y a b = go (dec_lt j (suc y))
-    where
-      go : Dec (j < suc y) → get_at (put_at w j e) (suc y) ≡ get_at ws y
-      go (yes l) = get_put_other w j e (suc y) (λ q. omega arith) ∙ s.done.moved y (omega arith) b
-      go (no l) =
-          let q : j ≡ suc y = omega arith in
-          let r : j - 1 ≡ y = omega arith in
-          ap (get_at (put_at w j e)) (sym q) ∙ here ∙ ap (get_at ws) r
-
-  step : Shifting j n ws (put_at w j e)
-  step =
-      record {
-        within = omega arith;
-        done =
-            record {
-              len = length_put w j e ∙ s.done.len;
-              moved = moved;
-              kept = λ y h. get_put_other w j e y (λ q. omega arith) ∙ s.done.kept y (omega arith);
-            };
-      }
-
-  pub turn : (v : Element) {w₂ : List ℕ} → v ≡ get_at w (j - 1) → w₂ ≡ put_at w j v → Shifting j n ws w₂
-  turn v a b = rw (b, a) step
-
-pub finish : (i n : ℕ) (ws w : List ℕ) → Shifting i n ws w → i ≤ 1 → Shifted 0 n ws w
-finish i n ws w s h =
-    let q : i - 1 ≡ 0 = omega arith in
-    rw q at s.done
+pub shifted : (n : ℕ) (ws : List ℕ) → 0 < n → length ws ≡ 4 * n → {w : List ℕ}
+    → w ≡ copy_within ws 0 (4 * (n - 1)) 4 → Shifted n ws w
+unfolding get_at
+shifted n ws some count {w} e =
+    let fits : 4 + 4 * (n - 1) ≤ length ws = omega arith in
+    let q : 4 * (n - 1) - 0 ≡ 4 * (n - 1) = omega arith in
+    rw (e, q)
+    (record {
+      len = length-paste ws 4 ws (4 * (n - 1)) fits (omega arith);
+      moved = λ y h.
+          rw (
+            pasted ws (4 * (n - 1)) fits (4 * y) (4 * suc y) (omega arith) (omega arith),
+            pasted ws (4 * (n - 1)) fits (4 * y + 1) (4 * suc y + 1) (omega arith) (omega arith),
+            pasted ws (4 * (n - 1)) fits (4 * y + 2) (4 * suc y + 2) (omega arith) (omega arith),
+            pasted ws (4 * (n - 1)) fits (4 * y + 3) (4 * suc y + 3) (omega arith) (omega arith),
+          ) refl;
+    })

@@ -11,7 +11,8 @@ use Rattle.field.proofs.Laws.{holds, read_as, size}
 use Rattle.table.specs.Table.{get_at, put_at, element_at, table_words}
 use Rattle.table.proofs.Laws.{length_put, get_put_other, get_put_same}
 use Rattle.table.proofs.Tests.{holds_at}
-use Rattle.poly.specs.Inner.{Shifted, Weights, previous_at, successor_at}
+use Rattle.poly.specs.Inner.{Weights, previous_at, successor_at}
+use Rattle.poly.proofs.Shifting.{Shifted}
 use Rattle.table.proofs.Laws.{table_whole}
 
 module _ (n : ℕ) (ws : List ℕ) (t : Weights n ws) where
@@ -19,11 +20,11 @@ module _ (n : ℕ) (ws : List ℕ) (t : Weights n ws) where
   f = element_at ws
 
   -- after the shift and the zero: the weight of the row before
-  module _ (w : List ℕ) (s : Shifted 0 n ws w) (e : Element) (z : Holds e field.zero) where
+  module _ (w : List ℕ) (s : Shifted n ws w) (e : Element) (z : Holds e field.zero) where
     previous : (y : ℕ) → y < n → get_at (put_at w 0 e) y ≡ to_words (previous_at f y)
     previous zero h = get_put_same w 0 e (omega (arith, s.len, t.count)) (rw z.words (size _)) ∙ z.words
     previous (suc y) h =
-        get_put_other w 0 e (suc y) (λ q. omega arith) ∙ s.moved y (omega arith) h ∙ (holds_at ws t.below y refl).words
+        get_put_other w 0 e (suc y) (λ q. omega arith) ∙ s.moved y h ∙ (holds_at ws t.below y refl).words
 
     pub kept : {w₂ : List ℕ} {k : Element} → w₂ ≡ put_at w 0 e → k ≡ get_at w₂ (n - 1) → Holds k (previous_at f (n - 1))
     kept a b = holds _ (b ∙ ap (λ l. get_at l (n - 1)) a ∙ previous (n - 1) (omega (arith, t.some)))

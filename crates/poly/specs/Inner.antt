@@ -1,14 +1,7 @@
 -- What the inner functions take and give. No operation that users call cites it. Assumes nothing.
-use Rattle.std.specs.Prelude.{◌≡◌, false, cond, ℕ, zero, suc, ◌-◌, ◌*◌, ◌≤◌, ◌<◌, List, eqb, length}
+use Rattle.std.specs.Prelude.{◌≡◌, false, cond, ℕ, zero, suc, ◌-◌, ◌*◌, ◌<◌, List, eqb, length}
 use Rattle.algebra.specs.Words.{unreduced}
 use Rattle.field.specs.Field.{p, Ext, field}
-use Rattle.table.specs.Table.{get_at}
-
--- of the n elements of ws those from i on stand one place further in w, and those up to i stand where they stood
-pub record Shifted (i n : ℕ) (ws w : List ℕ) : Type 0 where
-  pub len : length w ≡ length ws
-  pub moved : (y : ℕ) → i ≤ y → suc y < n → get_at w (suc y) ≡ get_at ws y
-  pub kept : (y : ℕ) → y ≤ i → get_at w y ≡ get_at ws y
 
 -- ws is a table of n weights, n above 0
 pub record Weights (n : ℕ) (ws : List ℕ) : Type 0 where

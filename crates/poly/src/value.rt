@@ -3,66 +3,68 @@ ghost use Rattle.std.specs.Prelude.{◌≡◌, get_or};
 ghost use Rattle.multilinear.specs.Values.{next_value_at};
 ghost use Rattle.field.specs.Field.{field, base, Holds};
 ghost use Rattle.table.specs.Table.{elements};
-ghost use Rattle.table.specs.Refusals.{answer, outcome};
-ghost use Rattle.table.specs.Inner.{onward};
+ghost use Rattle.table.specs.Refusals.{answer, outcome, verdict};
 ghost use Rattle.point.specs.Coordinates.{Coordinates};
-ghost use Rattle.poly.specs.Values.{value_tests, eval_base_answer, eval_ext_answer, eval_next_base_answer};
+ghost use Rattle.poly.specs.Values.{value_tests, base_tests, ext_tests, eval_base_answer, eval_ext_answer, eval_next_base_answer};
 ghost use Rattle.weigh.specs.Weigh.{Whole};
 
 use field::Element;
-use table::{Evaluation, Refusal, Verdict};
+use table::Refusal;
 
 // The value of a table of base words.
-pub fn eval_base(table: &[u32], point: &[u32]) -> Evaluation
+#[tactic(auto, using(table::proofs::Outcomes::outcomes), unfolding(crate::specs::Values::eval_base_answer))]
+pub fn eval_base(table: &[u32], point: &[u32]) -> Result<Element, Refusal>
     ensures { outcome result ≡ eval_base_answer table.now point.now }
 {
-    let split = Verdict::Accepted.refuse_if(table::splits(point), Refusal::Split);
-    let tested = test_value(split, table.len(), table, point);
-    match tested {
-        Verdict::Refused(refusal) => Evaluation::Refused(refusal),
-        Verdict::Accepted => {
-            Evaluation::Value(weigh::value(table, point, point.len() / 4).value())
-        }
-    }
+    test_base(table, point)?;
+    Ok(weigh::value(table, point, point.len() / 4))
 }
 
 // The value of a table of elements.
-pub fn eval_ext(table: &[u32], point: &[u32]) -> Evaluation
+#[tactic(auto, using(table::proofs::Outcomes::outcomes), unfolding(crate::specs::Values::eval_ext_answer))]
+pub fn eval_ext(table: &[u32], point: &[u32]) -> Result<Element, Refusal>
     ensures { outcome result ≡ eval_ext_answer table.now point.now }
 {
-    let split = Verdict::Accepted
-        .refuse_if(table::splits(table), Refusal::Split)
-        .refuse_if(table::splits(point), Refusal::Split);
-    let tested = test_value(split, table.len() / 4, table, point);
-    match tested {
-        Verdict::Refused(refusal) => Evaluation::Refused(refusal),
-        Verdict::Accepted => {
-            Evaluation::Value(weigh::value_ext(table, point, point.len() / 4).value())
-        }
-    }
+    test_ext(table, point)?;
+    Ok(weigh::value_ext(table, point, point.len() / 4))
 }
 
 // The sum of next[y] table[y].
-pub fn eval_next_base(table: &[u32], point: &[u32]) -> Evaluation
+#[tactic(auto, using(table::proofs::Outcomes::outcomes), unfolding(crate::specs::Values::eval_next_base_answer))]
+pub fn eval_next_base(table: &[u32], point: &[u32]) -> Result<Element, Refusal>
     ensures { outcome result ≡ eval_next_base_answer table.now point.now }
 {
-    let split = Verdict::Accepted.refuse_if(table::splits(point), Refusal::Split);
-    let tested = test_value(split, table.len(), table, point);
-    match tested {
-        Verdict::Refused(refusal) => Evaluation::Refused(refusal),
-        Verdict::Accepted => Evaluation::Value(next_value(table, point, point.len() / 4).value()),
-    }
+    test_base(table, point)?;
+    Ok(next_value(table, point, point.len() / 4))
+}
+
+// The tests of an evaluation: of a table of base words, which has an entry a word, and of a table of elements.
+#[tactic(auto, using(table::proofs::Verdicts::tests))]
+fn test_base(table: &[u32], point: &[u32]) -> Result<(), Refusal>
+    ensures { answer result ≡ verdict (base_tests table.now point.now) }
+{
+    table::refuse_if(table::splits(point), Refusal::Split)?;
+    test_value(table.len(), table, point)
+}
+
+#[tactic(auto, using(table::proofs::Verdicts::tests))]
+fn test_ext(table: &[u32], point: &[u32]) -> Result<(), Refusal>
+    ensures { answer result ≡ verdict (ext_tests table.now point.now) }
+{
+    table::refuse_if(table::splits(table), Refusal::Split)?;
+    table::refuse_if(table::splits(point), Refusal::Split)?;
+    test_value(table.len() / 4, table, point)
 }
 
 // The tests of an evaluation after 1; the table has `count` entries.
-fn test_value(split: Verdict, count: usize, table: &[u32], point: &[u32]) -> Verdict
-    ensures { answer result ≡ onward (answer split) (value_tests count table.now point.now) }
+#[tactic(auto, using(table::proofs::Verdicts::tests))]
+fn test_value(count: usize, table: &[u32], point: &[u32]) -> Result<(), Refusal>
+    ensures { answer result ≡ verdict (value_tests count table.now point.now) }
 {
-    split
-        .refuse_entries(count, point)
-        .refuse_if(table::variables(count) != point.len() / 4, Refusal::Lengths)
-        .refuse_if(field::unreduced(table), Refusal::Unreduced)
-        .refuse_if(field::unreduced(point), Refusal::Unreduced)
+    table::test_entries(count, point)?;
+    table::refuse_if(table::variables(count) != point.len() / 4, Refusal::Lengths)?;
+    table::refuse_if(field::unreduced(table), Refusal::Unreduced)?;
+    table::refuse_if(field::unreduced(point), Refusal::Unreduced)
 }
 
 // Each row's weight goes to the row after it; the last row has its own once more.

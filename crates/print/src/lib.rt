@@ -1,63 +1,71 @@
-// What the programs write: texts, words, elements and refusals.
+// What the programs write: answers, and elements of words.
 #![tactic(auto)]
 
-use field::{Element, Value};
-use std::io;
-use table::{Evaluation, Refusal, Verdict};
+use field::Element;
+use std::fmt;
+use table::Refusal;
 
-pub fn text(rt: &impl Print, bytes: &[u8]) -> io::Result<()> {
-    rt.write_all(bytes)
-}
+// An element, or the refusal.
+#[derive(Clone, Copy)]
+pub struct Answer(pub Result<Element, Refusal>);
 
-pub fn word(rt: &impl Print, word: u32) -> io::Result<()> {
-    print!(rt; " {word}")
-}
-
-pub fn count(rt: &impl Print, n: u64) -> io::Result<()> {
-    print!(rt; " {n}")
-}
-
-// A number alone where the other coordinates are 0.
-pub fn value(rt: &impl Print, v: Value) -> io::Result<()> {
-    word(rt, v.c0)?;
-    if v.c1 != 0 || v.c2 != 0 || v.c3 != 0 {
-        word(rt, v.c1)?;
-        word(rt, v.c2)?;
-        word(rt, v.c3)?;
+impl fmt::Display for Answer {
+    fn fmt<W: fmt::Write>(&self, f: &mut fmt::Formatter<W>) -> fmt::Result {
+        match self.0 {
+            Ok(element) => write!(f, "{element}"),
+            Err(refusal) => write!(f, "{refusal}"),
+        }
     }
-    Ok(())
 }
 
-pub fn element(rt: &impl Print, e: Element) -> io::Result<()> {
-    value(rt, e.value())?;
-    text(rt, b"\n")
-}
+// The elements that words are.
+#[derive(Clone, Copy)]
+pub struct Elements<'a>(pub &'a [u32]);
 
-pub fn evaluation(rt: &impl Print, e: Evaluation) -> io::Result<()> {
-    match e {
-        Evaluation::Value(v) => value(rt, v)?,
-        Evaluation::Refused(refusal) => refused(rt, refusal)?,
+impl fmt::Display for Elements<'_> {
+    fn fmt<W: fmt::Write>(&self, f: &mut fmt::Formatter<W>) -> fmt::Result {
+        for i in 0..self.0.len() / 4 {
+            if 0 < i {
+                f.write_str(" ")?;
+            }
+            let element = table::get(self.0, i);
+            write!(f, "{element}")?;
+        }
+        Ok(())
     }
-    text(rt, b"\n")
-}
-
-pub fn refused(rt: &impl Print, refusal: Refusal) -> io::Result<()> {
-    text(rt, b" refused")?;
-    word(rt, Verdict::Refused(refusal).answer())
 }
 
 // The elements of a table that a call filled, or its refusal.
-pub fn table(rt: &impl Print, answer: Verdict, out: &[u32]) -> io::Result<()> {
-    match answer {
-        Verdict::Refused(refusal) => refused(rt, refusal)?,
-        Verdict::Accepted => elements(rt, out)?,
+#[derive(Clone, Copy)]
+pub struct Table<'a>(pub Result<(), Refusal>, pub &'a [u32]);
+
+impl fmt::Display for Table<'_> {
+    fn fmt<W: fmt::Write>(&self, f: &mut fmt::Formatter<W>) -> fmt::Result {
+        match self.0 {
+            Ok(()) => {
+                let elements = Elements(self.1);
+                write!(f, "{elements}")
+            }
+            Err(refusal) => write!(f, "{refusal}"),
+        }
     }
-    text(rt, b"\n")
 }
 
-pub fn elements(rt: &impl Print, out: &[u32]) -> io::Result<()> {
-    for i in 0..out.len() / 4 {
-        value(rt, table::get(out, i).value())?;
+// The entries that a fixed table still has, at its front, or the refusal.
+#[derive(Clone, Copy)]
+pub struct Remaining<'a>(pub Result<usize, Refusal>, pub &'a [u32]);
+
+impl fmt::Display for Remaining<'_> {
+    fn fmt<W: fmt::Write>(&self, f: &mut fmt::Formatter<W>) -> fmt::Result {
+        match self.0 {
+            Ok(entries) => {
+                if entries <= self.1.len() / 4 {
+                    let front = Elements(&self.1[..4 * entries]);
+                    write!(f, "{front}")?;
+                }
+                Ok(())
+            }
+            Err(refusal) => write!(f, "{refusal}"),
+        }
     }
-    Ok(())
 }

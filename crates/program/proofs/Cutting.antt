@@ -1,28 +1,31 @@
--- The loop that cuts a block into lines, at byte `start`: the bytes before it were fed. Assumes nothing.
+-- The loop that cuts a block into lines: what is left of the block is still to be fed. Assumes nothing.
 use mathlib.Core.Path.{◌≡◌, refl, sym, ap, ap₂, ◌∙◌}
 use mathlib.Core.Bool.{Bool, true, false, cond}
-use Prim.Native.Nat.{ℕ, suc, ◌+◌, ◌-◌, ◌^◌, ◌≤◌, ◌<◌}
+use Prim.Native.Nat.{ℕ, suc, ◌+◌, ◌-◌, ◌≤◌, ◌<◌}
 use native.Mathlib.Numerals.{add-one}
 use native.Mathlib.Omega.{arith}
-use mathlib.Core.List.{List, [], ◌∷◌, ◌++◌, append-nil}
-use lib.Dec.{eqb}
-use borrow.Author.Tests.{eqb-true}
+use mathlib.Core.List.{List, [], ◌∷◌, ◌++◌, append-nil, append_assoc}
+use lib.Dec.{eqb, ltb}
 use lib.ListN.{length, get_or, take, drop, length-take, length-drop, take-append-drop}
-use lib.Seq.{take-add, take-suc, take-length, get_or-drop}
-use Rattle.program.specs.declared.Program.{Program}
-use Rattle.program.specs.declared.Fed.{Fed}
-use Rattle.program.specs.Printed.{line_feed}
+use lib.Seq.{take_all, drop-cons}
+use borrow.Author.Tests.{eqb-true, ltb-true, ltb-false}
+use Rattle.std.specs.Prelude.{Some, None, position}
+use Rattle.std.specs.List.{position_or_len}
+use Rattle.std.proofs.lemmas.List.Recursion.{is_position_or_len}
 use Rattle.frame.specs.Frame.{most_line}
-use Rattle.program.specs.Blocks.{Feeding, line_ended, holding, byte_step, byte_text, fed, said, feeding_of, Going}
-use Rattle.program.specs.Inner.{until_feed, Held, Behind, Goes, with_used, text_of}
+use Rattle.program.specs.Printed.{line_feed}
+use Rattle.program.specs.Blocks.{Feeding, Fed, line_ended, holding, byte_step, byte_text, fed, said}
+use Rattle.program.specs.Inner.{until_feed, text_of, ended}
 use Rattle.program.proofs.Joining.{fed_append, said_append, stopped_fed, stopped_said, until_fed, until_said}
-use Rattle.program.proofs.Ending.{at_first}
+
+abbrev is_feed : ℕ → Bool
+is_feed b = eqb b line_feed
 
 -- as many bytes as come before the line feed are those before it
 until_front : (bs : List ℕ) → take (length (until_feed bs)) bs ≡ until_feed bs
 unfolding until_feed
 until_front [] = refl
-until_front (b ∷ bs) = go (eqb b line_feed) (until_front bs)
+until_front (b ∷ bs) = go (is_feed b) (until_front bs)
   where
     go : (t : Bool) → take (length (until_feed bs)) bs ≡ until_feed bs
         → take (length (cond t [] (b ∷ until_feed bs))) (b ∷ bs) ≡ cond t [] (b ∷ until_feed bs)
@@ -33,160 +36,126 @@ until_front (b ∷ bs) = go (eqb b line_feed) (until_front bs)
 until_feed_lem : (bs : List ℕ) → length (until_feed bs) < length bs → get_or bs (length (until_feed bs)) 0 ≡ line_feed
 unfolding until_feed
 until_feed_lem [] h = let no : ⊥ = omega arith in absurd no
-until_feed_lem (b ∷ bs) h = go (eqb b line_feed) refl h (until_feed_lem bs)
+until_feed_lem (b ∷ bs) h = go (is_feed b) refl h (until_feed_lem bs)
   where
-    go : (t : Bool) → eqb b line_feed ≡ t → length (cond t [] (b ∷ until_feed bs)) < suc (length bs)
+    go : (t : Bool) → is_feed b ≡ t → length (cond t [] (b ∷ until_feed bs)) < suc (length bs)
         → (length (until_feed bs) < length bs → get_or bs (length (until_feed bs)) 0 ≡ line_feed)
         → get_or (b ∷ bs) (length (cond t [] (b ∷ until_feed bs))) 0 ≡ line_feed
     go true e l more = eqb-true b line_feed e
     go false e l more = more (omega arith)
 
--- what the contract of `lines` says
-abbrev pub Feeds : Feeding → List ℕ → Fed → List ℕ → List ℕ → List ℕ → Type 0
-Feeds f block at line out text =
-    (feeding_of at.program line out ≡ fed f block)
-    × ((take at.count text ≡ said f block) × Goes at.program line out text at.count)
+-- so many they are
+count : (bs : List ℕ) → length (until_feed bs) ≡ position_or_len is_feed bs
+unfolding until_feed
+count = is_position_or_len (λ bs. length (until_feed bs)) is_feed refl (λ b bs. go (is_feed b) b (until_feed bs))
+  where
+    go : (t : Bool) (b : ℕ) (cs : List ℕ) → length (cond t [] (b ∷ cs)) ≡ cond t 0 (1 + length cs)
+    go true b cs = refl
+    go false b cs = let e : suc (length cs) ≡ 1 + length cs = omega arith in e
 
--- the bytes before `start` were fed
-pub record Cut (f : Feeding) (block line₀ out₀ text₀ : List ℕ) (at : Fed) (start : ℕ) (line out text : List ℕ) : Type 0 where
-  pub within : start ≤ length block
-  pub few : length block < 2 ^ 64
-  pub feeds : Feeds f (take start block) at line out text
-  pub same_line : length line ≡ length line₀
-  pub same_out : length out ≡ length out₀
-  pub same_text : length text ≡ length text₀
+module _ (bs : List ℕ) where
+  none_there : position is_feed bs ≡ None → until_feed bs ≡ bs
+  none_there h = go (ltb (position_or_len is_feed bs) (length bs)) refl h
+    where
+      go : (t : Bool) → ltb (position_or_len is_feed bs) (length bs) ≡ t → cond t (Some (position_or_len is_feed bs)) None ≡ None
+          → until_feed bs ≡ bs
+      go true e q = absurd (let z : ◌≡◌ {A = ℕ} 0 1 = cc in omega arith)
+      go false e q = sym (until_front bs) ∙ take_all _ bs (omega (arith, ltb-false _ _ e, count bs))
 
-pub begin : (program : Program) (block line out text : List ℕ) → length block < 2 ^ 64 → Going program line out text
-    → Cut (feeding_of program line out) block line out text (record { program = program; count = 0 }) 0 line out text
-unfolding fed said
-begin program block line out text h g =
-    record {
-      within = omega arith;
-      few = h;
-      feeds = (refl, (refl, at_first g));
-      same_line = refl;
-      same_out = refl;
-      same_text = refl;
-    }
+  module _ (n : ℕ) (h : position is_feed bs ≡ Some n) where
+    pub there : (n ≡ length (until_feed bs)) × (n < length bs)
+    there = go (ltb (position_or_len is_feed bs) (length bs)) refl h
+      where
+        go : (t : Bool) → ltb (position_or_len is_feed bs) (length bs) ≡ t → cond t (Some (position_or_len is_feed bs)) None ≡ Some n
+            → (n ≡ length (until_feed bs)) × (n < length bs)
+        go true e q = let m : position_or_len is_feed bs ≡ n = cc in (sym m ∙ sym (count bs), omega (arith, ltb-true _ _ e))
+        go false e q = absurd (let z : ◌≡◌ {A = ℕ} 0 1 = cc in omega arith)
 
-module _ {f : Feeding} {block line₀ out₀ text₀ : List ℕ} {at : Fed} {start : ℕ} {line out text : List ℕ}
-    (s : Cut f block line₀ out₀ text₀ at start line out text) where
-  -- the whole block was
-  pub all_fed : start ≡ length block → Feeds f block at line out text
-  all_fed e = rw (e, take-length block) at s.feeds
+    before : take n bs ≡ until_feed bs
+    before = ap (λ k. take k bs) there.0 ∙ until_front bs
 
-  -- or a refusal stops it
-  pub stopped_there : at.program.stopped ≡ true → Feeds f block at line out text
-  stopped_there e =
-      let g : Feeding = fed f (take start block) in
-      let q : g.stopped ≡ true = sym (ap (λ x. x.stopped) s.feeds.0) ∙ e in
-      let rest : List ℕ = drop start block in (
-        s.feeds.0
-            ∙ sym (ap (fed f) (sym (take-append-drop start block)) ∙ fed_append f (take start block) rest ∙ stopped_fed g rest q),
-        (
-          s.feeds.1.0
-              ∙ sym
-              (ap (said f) (sym (take-append-drop start block)) ∙ said_append f (take start block) rest
-              ∙ ap (λ t. said f (take start block) ++ t) (stopped_said g rest q) ∙ append-nil _),
-          s.feeds.1.1,
-        ),
-      )
+    parts : bs ≡ until_feed bs ++ line_feed ∷ drop (n + 1) bs
+    parts =
+        let here : get_or bs n 0 ≡ line_feed = ap (λ k. get_or bs k 0) there.0 ∙ until_feed_lem bs (omega (arith, there.0, there.1)) in
+        sym (take-append-drop n bs)
+        ∙ ap₂ ◌++◌ before
+        (drop-cons bs n 0 there.1 ∙ ap (λ b. b ∷ drop (suc n) bs) here ∙ ap (λ k. line_feed ∷ drop k bs) (sym (add-one n)))
 
-  -- the bytes of a line are held
-  module _ (on : at.program.stopped ≡ false) {n : ℕ} (l : n ≡ length (until_feed (drop start block))) (there : start + n ≤ length block) where
-    part : take (start + n - start) (drop start block) ≡ until_feed (drop start block)
-    part =
-        let q : start + n - start ≡ n = omega arith in
-        ap (λ m. take m (drop start block)) (q ∙ l) ∙ until_front (drop start block)
+-- the bytes behind the first n
+pub behind : (n : ℕ) (bs : List ℕ) → take (length bs - n) (drop n bs) ≡ drop n bs
+behind n bs = take_all (length bs - n) (drop n bs) (omega (arith, length-drop n bs))
 
-    front : take (start + n) block ≡ take start block ++ until_feed (drop start block)
-    front =
-        take-add start n block
-        ∙ ap (λ t. take start block ++ t) (ap (λ m. take m (drop start block)) l ∙ until_front (drop start block))
+-- the line that these bytes end
+module _ (f : Feeding) (on : f.stopped ≡ false) (few : length f.held ≤ most_line) (bs : List ℕ) (n : ℕ)
+    (h : position is_feed bs ≡ Some n) where
+  abbrev line : Feeding
+  line = holding f (take n bs)
 
-    abbrev g : Feeding
-    g = feeding_of at.program line out
+  held_is : fed f (until_feed bs) ≡ line
+  held_is = until_fed f bs on few ∙ ap (holding f) (sym (before bs n h))
 
-    pub held : {w : List ℕ} {used : ℕ} {at' : Fed} → Held line at.program.used (take (start + n - start) (drop start block)) w used
-        → at' ≡ with_used at used → Cut f block line₀ out₀ text₀ at' (start + n) w out text
-    held {w} {used} {at'} h e =
-        let bytes : List ℕ = until_feed (drop start block) in
-        let few : length g.held ≤ most_line = omega (arith, length-take at.program.used line, s.feeds.1.1.going.few) in
-        let held-is : take used w ≡ take most_line (take at.program.used line ++ bytes) =
-        h.holds ∙ ap (λ t. take most_line (take at.program.used line ++ t)) part in
-        let state : feeding_of (with_used at used).program w out ≡ holding g bytes =
-        ap (λ hs. record { state = g.state; stopped = g.stopped; held = hs }) held-is in
-        let fed-is : holding g bytes ≡ fed f (take (start + n) block) =
-        sym (until_fed g (drop start block) on few) ∙ ap (λ x. fed x bytes) s.feeds.0 ∙ sym (fed_append f (take start block) bytes)
-        ∙ ap (fed f) (sym front) in
-        let silent : said (fed f (take start block)) bytes ≡ [] =
-        ap (λ x. said x bytes) (sym s.feeds.0) ∙ until_said g (drop start block) on in
-        let said-is : said f (take start block) ≡ said f (take (start + n) block) =
-        sym (append-nil _) ∙ ap (λ t. said f (take start block) ++ t) (sym silent) ∙ sym (said_append f (take start block) bytes)
-        ∙ ap (said f) (sym front) in
-        let goes = s.feeds.1.1 in
-        rw e
+  step_is : byte_step line line_feed ≡ line_ended line
+  step_is = rw on
+
+  text_is : byte_text line line_feed ≡ text_of line
+  text_is = rw on
+
+  line_fed : fed f bs ≡ fed (line_ended line) (drop (n + 1) bs)
+  unfolding fed
+  line_fed =
+      ap (fed f) (parts bs n h) ∙ fed_append f (until_feed bs) (line_feed ∷ drop (n + 1) bs)
+      ∙ ap (λ g. fed (byte_step g line_feed) (drop (n + 1) bs)) held_is ∙ ap (λ g. fed g (drop (n + 1) bs)) step_is
+
+  line_said : said f bs ≡ text_of line ++ said (line_ended line) (drop (n + 1) bs)
+  unfolding said
+  line_said =
+      ap (said f) (parts bs n h) ∙ said_append f (until_feed bs) (line_feed ∷ drop (n + 1) bs)
+      ∙ ap₂ ◌++◌ (until_said f bs on) (ap (λ g. byte_text g line_feed ++ said (byte_step g line_feed) (drop (n + 1) bs)) held_is)
+      ∙ ap₂ ◌++◌ text_is (ap (λ g. said g (drop (n + 1) bs)) step_is)
+
+-- the rest of the block is still to be fed
+pub record Cut (f : Feeding) (block : List ℕ) (s : Fed) (rest : List ℕ) : Type 0 where
+  pub feeds : fed s.feeding rest ≡ fed f block
+  pub says : s.text ++ said s.feeding rest ≡ said f block
+  pub within : length rest ≤ length block
+
+-- the block was fed
+abbrev pub Done : Feeding → List ℕ → Fed → Type 0
+Done f block s = s ≡ record { feeding = fed f block; text = said f block }
+
+pub start : (f : Feeding) (block : List ℕ) → Cut f block (record { feeding = f; text = [] }) block
+start f block = record { feeds = refl; says = refl; within = omega arith }
+
+module _ {f : Feeding} {block : List ℕ} {s : Fed} {rest : List ℕ} (c : Cut f block s rest) where
+  done : (g : Feeding) → fed s.feeding rest ≡ g → said s.feeding rest ≡ [] → Done f block (record { feeding = g; text = s.text })
+  done g e q =
+      ap₂ (λ (h : Feeding) (t : List ℕ). let x : Fed = record { feeding = h; text = t } in x) (sym e ∙ c.feeds)
+      (sym (append-nil s.text) ∙ ap (λ t. s.text ++ t) (sym q) ∙ c.says)
+
+  -- a refusal stops it
+  pub stop : s.feeding.stopped ≡ true → Done f block s
+  stop e = done s.feeding (stopped_fed s.feeding rest e) (stopped_said s.feeding rest e)
+
+  module _ (on : s.feeding.stopped ≡ false) (few : length s.feeding.held ≤ most_line) where
+    -- no line ends any more
+    pub last : position is_feed rest ≡ None → Done f block (record { feeding = holding s.feeding rest; text = s.text })
+    last h =
+        let all = none_there rest h in
+        done _ (ap (fed s.feeding) (sym all) ∙ until_fed s.feeding rest on few ∙ ap (holding s.feeding) all)
+        (ap (said s.feeding) (sym all) ∙ until_said s.feeding rest on)
+
+    -- or one does
+    pub turn : (n : ℕ) → position is_feed rest ≡ Some n → {t : Fed}
+        → t ≡ ended (record { feeding = holding s.feeding (take n rest); text = s.text })
+        → {more : List ℕ} → more ≡ drop (n + 1) rest → Cut f block t more
+    turn n h e q =
+        rw (e, q)
         (record {
-          within = there;
-          few = s.few;
-          feeds = (
-            state ∙ fed-is,
-            (
-              s.feeds.1.0 ∙ said-is,
-              record {
-                going =
-                    record {
-                      ready = goes.going.ready;
-                      few = h.count;
-                      line_room = h.len ∙ goes.going.line_room;
-                      text_room = goes.going.text_room;
-                    };
-                room = goes.room;
-              },
-            ),
-          );
-          same_line = h.len ∙ s.same_line;
-          same_out = s.same_out;
-          same_text = s.same_text;
+          feeds = sym (line_fed s.feeding on few rest n h) ∙ c.feeds;
+          says = append_assoc s.text _ _ ∙ ap (λ t. s.text ++ t) (sym (line_said s.feeding on few rest n h)) ∙ c.says;
+          within = omega (arith, c.within, length-drop (n + 1) rest);
         })
 
-  -- the line feed behind them ends the line
-  module _ (on : at.program.stopped ≡ false) (more : start < length block) (feed : get_or block start 0 ≡ line_feed) where
-    abbrev h : Feeding
-    h = feeding_of at.program line out
-
-    next : take (start + 1) block ≡ take start block ++ line_feed ∷ []
-    next = ap (λ n. take n block) (add-one start) ∙ take-suc block start 0 more ∙ ap (λ b. take start block ++ b ∷ []) feed
-
-    pub ended : {e : Fed} {out' text' : List ℕ} → feeding_of e.program line out' ≡ line_ended h
-        → Behind at.count text (text_of h) text' e.count → Goes e.program line out' text' e.count
-        → length out' ≡ length out → Cut f block line₀ out₀ text₀ e (start + 1) line out' text'
-    unfolding fed said
-    ended {e} {out'} {text'} ends d goes same =
-        let step_is : byte_step h line_feed ≡ line_ended h = rw on in
-        let text-is : byte_text h line_feed ≡ text_of h = rw on in
-        record {
-          within = omega arith;
-          few = s.few;
-          feeds = (
-            ends ∙ sym step_is ∙ ap (λ x. byte_step x line_feed) s.feeds.0 ∙ sym (fed_append f (take start block) (line_feed ∷ []))
-                ∙ ap (fed f) (sym next),
-            (
-              d.is ∙ ap₂ ◌++◌ s.feeds.1.0 (sym text-is ∙ ap (λ x. byte_text x line_feed) s.feeds.0 ∙ sym (append-nil _))
-                  ∙ sym (said_append f (take start block) (line_feed ∷ []))
-                  ∙ ap (said f) (sym next),
-              goes,
-            ),
-          );
-          same_line = s.same_line;
-          same_out = same ∙ s.same_out;
-          same_text = d.len ∙ s.same_text;
-        }
-
--- the byte after the bytes of a line, where there is one
-pub feed_there : (block : List ℕ) (start : ℕ) {n : ℕ} → n ≡ length (until_feed (drop start block)) → start + n ≤ length block
-    → (start + n ≡ length block → ⊥) → (start + n < length block) × (get_or block (start + n) 0 ≡ line_feed)
-feed_there block start {n} l there left =
-    let more : start + n < length block = omega arith in
-    let inside : length (until_feed (drop start block)) < length (drop start block) = omega (arith, length-drop start block) in
-    (more, ap (λ m. get_or block (start + m) 0) l ∙ sym (get_or-drop start block (length (until_feed (drop start block))) 0) ∙ until_feed_lem (drop start block) inside)
+-- what is held of a line is no more than is decoded
+pub held_few : (bytes : List ℕ) {held : List ℕ} → held ≡ take most_line bytes → length held ≤ most_line
+held_few bytes e = omega (arith, ap length e, length-take most_line bytes)

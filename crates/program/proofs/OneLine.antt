@@ -3,23 +3,22 @@ use mathlib.Core.Path.{◌≡◌, refl, sym, ap, ◌∙◌}
 use mathlib.Core.Bool.{Bool, true, false, cond}
 use Prim.Native.Nat.{ℕ, zero, suc, ◌+◌, ◌*◌, ◌^◌, ◌≤◌}
 use native.Mathlib.Omega.{arith}
-use mathlib.Core.List.{List, []}
-use lib.ListN.{length}
+use mathlib.Core.List.{List, [], ◌++◌}
+use lib.ListN.{length, length-append}
+use Rattle.std.specs.Prelude.{Option, Some, None, Result, Ok, Err}
 use Rattle.table.specs.declared.Refusal.{Refusal}
-use Rattle.table.specs.declared.Verdict.TheVariants.{Accepted, Refused}
-use Rattle.table.specs.Refusals.{number, answer, verdict}
+use Rattle.table.specs.Refusals.{number, verdict}
 use Rattle.table.proofs.Answers.{number_some}
-use Rattle.frame.specs.declared.Kind.{Kind}
-use Rattle.frame.specs.declared.Kind.TheVariants as kind
 use Rattle.frame.specs.declared.Frame.{Frame}
+use Rattle.frame.specs.declared.Frame.TheVariants.{Open, Coordinate, Words, Close}
 use Rattle.frame.specs.Frame.{frame_of}
 use Rattle.runs.specs.declared.Reader.{Reader}
-use Rattle.runs.specs.declared.Turn.{Turn}
-use Rattle.runs.specs.Reader.{most_places, is_done, line_answer, taken, out_by, turn, turned, out_after, Ready}
-use Rattle.program.specs.declared.Fed.{Fed}
+use Rattle.runs.specs.Phases.{is_done}
+use Rattle.runs.specs.Reader.{most_places, line_answer, taken, out_by, standing, turn, turned, out_after, Ready}
 use Rattle.program.specs.Printed.{out_text, unless_refused, refusal_line}
-use Rattle.program.specs.Blocks.{most_text, Feeding, is_refused, line_ended, feeding_of, Going}
-use Rattle.program.specs.Inner.{Behind, Goes, ended_as, text_of, done_text}
+use Rattle.program.specs.Blocks.{most_text, Feeding, Fed, is_refused}
+use Rattle.program.specs.Inside.{Goes}
+use Rattle.program.specs.Inner.{done_text, ended}
 use Rattle.program.proofs.Texts.{done_length}
 
 -- a refusal's number is none of an accepted line
@@ -29,7 +28,7 @@ refused zero h text = absurd (h refl)
 refused (suc n) h text = (refl, refl)
 
 -- after `04` every line is 10
-done_is_ten : (r : Reader) (x : Frame) → is_done r.phase ≡ true → line_answer r x ≡ 10
+done_is_ten : (r : Reader) (x : Option Frame) → is_done r.phase ≡ true → line_answer r x ≡ 10
 unfolding line_answer verdict
 done_is_ten r x e = rw e
 
@@ -37,7 +36,7 @@ silent : (r : Reader) → is_done r.phase ≡ false → (out : List ℕ) → [] 
 silent r e out = rw e
 
 -- an accepted line: what it leaves and prints
-module _ (r : Reader) (x : Frame) (accepted : line_answer r x ≡ 0) where
+module _ (r : Reader) (x : Option Frame) (accepted : line_answer r x ≡ 0) where
   pub goes_on : is_done r.phase ≡ false
   goes_on = go (is_done r.phase) refl
     where
@@ -46,105 +45,129 @@ module _ (r : Reader) (x : Frame) (accepted : line_answer r x ≡ 0) where
       go true e = let no : ◌≡◌ {A = ℕ} 10 0 = sym (done_is_ten r x e) ∙ accepted in absurd (omega arith)
 
   -- out is printed at `04`, and then only
-  by_kind : (k : Kind) (out : List ℕ) → out_text k (record { reader = r; out = out }) ≡ done_text (taken k r x) (out_by k r x out)
-  by_kind kind.Open out = refl
-  by_kind kind.Coordinate out = silent (taken kind.Coordinate r x) goes_on out
-  by_kind kind.Words out = refl
-  by_kind kind.Close out = refl
-  by_kind kind.NoFrame out = silent r goes_on out
+  by_frame : (y : Option Frame) (out : List ℕ) → out_text y (record { reader = r; out = out }) ≡ done_text (taken r y) (out_by r y out)
+  by_frame (Some (Open o)) out = refl
+  by_frame (Some (Coordinate i e)) out = silent (taken r (Some (Coordinate i e))) goes_on out
+  by_frame (Some (Words ws)) out = refl
+  by_frame (Some Close) out = refl
+  by_frame None out = silent r goes_on out
 
-  pub at_close : (out : List ℕ) → out_text x.kind (record { reader = r; out = out }) ≡ done_text (turned r x).1 (out_after r x out)
+  pub at_close : (out : List ℕ) → out_text x (record { reader = r; out = out }) ≡ done_text (turned r x).1 (out_after r x out)
   unfolding turned out_after
-  at_close out = rw accepted (by_kind x.kind out)
+  at_close out = rw accepted (by_frame x out)
 
--- the step of a held line
-module _ {at : Fed} {line out text : List ℕ} (goes : Goes at.program line out text at.count) (on : at.program.stopped ≡ false) where
+-- the held line's step
+pub record Stepped (s : Fed) (result : Result Reader Refusal) (out : List ℕ) : Type 0 where
+  pub steps : turn result s.feeding.state.reader ≡ turned s.feeding.state.reader (frame_of s.feeding.held)
+  pub sums : out ≡ out_after s.feeding.state.reader (frame_of s.feeding.held) s.feeding.state.out
+  pub ready : Ready (standing result s.feeding.state.reader) out
+
+pub stepped : (s : Fed) (result : Result Reader Refusal) {x : Option Frame} {line out : List ℕ} → x ≡ frame_of line → line ≡ s.feeding.held
+    → turn result s.feeding.state.reader ≡ turned s.feeding.state.reader x
+    → out ≡ out_after s.feeding.state.reader x s.feeding.state.out
+    → Ready (standing result s.feeding.state.reader) out → Stepped s result out
+stepped s result d l t o r =
+    let e = d ∙ ap frame_of l in
+    record {
+      steps = t ∙ ap (turned s.feeding.state.reader) e;
+      sums = o ∙ ap (λ y. out_after s.feeding.state.reader y s.feeding.state.out) e;
+      ready = r;
+    }
+
+module _ {s : Fed} (goes : Goes s) (on : s.feeding.stopped ≡ false) where
   abbrev f : Feeding
-  f = feeding_of at.program line out
+  f = s.feeding
 
   abbrev r : Reader
-  r = at.program.reader
+  r = f.state.reader
 
-  abbrev x : Frame
+  abbrev x : Option Frame
   x = frame_of f.held
 
   -- text has room for what the lines may still print
-  room_left : at.count + cond (is_done r.phase) 5 most_text ≤ most_text
-  room_left = let h : at.count + cond false 0 (cond (is_done r.phase) 5 most_text) ≤ most_text = rw on at goes.room in h
+  room_left : length s.text + cond (is_done r.phase) 5 most_text ≤ most_text
+  room_left = let h : length s.text + cond false 0 (cond (is_done r.phase) 5 most_text) ≤ most_text = rw on at goes.room in h
 
-  pub refusal_fits : at.count + 5 ≤ most_text
+  pub refusal_fits : length s.text + 5 ≤ most_text
   refusal_fits = go (is_done r.phase) room_left
     where
-      go : (t : Bool) → at.count + cond t 5 most_text ≤ most_text → at.count + 5 ≤ most_text
+      go : (t : Bool) → length s.text + cond t 5 most_text ≤ most_text → length s.text + 5 ≤ most_text
       go true h = h
       go false h = omega arith
 
-  module _ (t : Turn) (steps : turn t ≡ turned r x) {out' : List ℕ} (sums : out' ≡ out_after r x out) (ready : Ready t.reader out') where
-    -- what the contract of `one_line` says
-    abbrev Ends : Fed → List ℕ → Type 0
-    Ends e text' =
-        (feeding_of e.program line out' ≡ line_ended f)
-        × (Behind at.count text (text_of f) text' e.count × Goes e.program line out' text' e.count)
+  -- the reader after it, whether it goes on, and the text
+  abbrev after : Reader → List ℕ → Bool → List ℕ → Fed
+  after reader out stopped text =
+      record { feeding = record { state = record { reader = reader; out = out }; stopped = stopped; held = [] }; text = text }
 
-    number_is : answer t.answer ≡ line_answer r x
+  left_as : {reader : Reader} {out : List ℕ} → reader ≡ (turned r x).1 → out ≡ out_after r x f.state.out → (stopped : Bool)
+      → stopped ≡ is_refused (line_answer r x) → (text : List ℕ)
+      → text ≡ s.text ++ unless_refused (line_answer r x) (out_text x f.state) → after reader out stopped text ≡ ended s
+  left_as reads sums stopped e text t = rw (reads, sums, e, t) refl
+
+  module _ (refusal : Refusal) {out text : List ℕ} (st : Stepped s (Err refusal) out)
+      (put : text ≡ s.text ++ refusal_line (number refusal)) where
+    numbered : number refusal ≡ line_answer r x
     unfolding turned
-    number_is = ap (λ p. p.0) steps
+    numbered = ap (λ p. p.0) st.steps
 
-    reader_is : t.reader ≡ (turned r x).1
-    reader_is = ap (λ p. p.1) steps
+    stays : r ≡ (turned r x).1
+    stays = ap (λ p. p.1) st.steps
 
-    left_as : (stopped : Bool) → stopped ≡ is_refused (line_answer r x)
-        → record { state = record { reader = t.reader; out = out' }; stopped = stopped; held = [] } ≡ line_ended f
-    left_as stopped e = rw (e, sums, reader_is) refl
+    no : (is_refused (line_answer r x) ≡ true)
+        × (unless_refused (line_answer r x) (out_text x f.state) ≡ refusal_line (line_answer r x))
+    no = refused (line_answer r x) (λ z. number_some refusal (z ∙ sym numbered)) (out_text x f.state)
 
-    going_on : {text' : List ℕ} → length text' ≡ length text → (stopped : Bool)
-        → Going (record { reader = t.reader; used = 0; stopped = stopped }) line out' text'
-    going_on l stopped =
+    pub line_refused : after r out true text ≡ ended s
+    line_refused =
+        left_as stays st.sums true (sym no.0) text
+        (put ∙ ap (λ t. s.text ++ t) (ap refusal_line numbered ∙ sym no.1))
+
+    pub refused_goes : Goes (after r out true text)
+    refused_goes =
         record {
-          ready = ready;
+          ready = st.ready;
           few = omega arith;
-          line_room = goes.going.line_room;
-          text_room = l ∙ goes.going.text_room;
+          room = rw put (omega (arith, refusal_fits, length-append s.text (refusal_line (number refusal))));
         }
 
-    pub line_refused : {refusal : Refusal} → t.answer ≡ Refused refusal → {e : Fed} {text' : List ℕ} {count : ℕ}
-        → Behind at.count text (refusal_line (number refusal)) text' count → e ≡ ended_as t.reader true count → Ends e text'
-    line_refused {refusal} a {e} {text'} {count} d q =
-        let n : number refusal ≡ line_answer r x = sym (ap answer a) ∙ number_is in
-        let no = refused (line_answer r x) (λ z. number_some refusal (z ∙ sym n)) (out_text x.kind f.state) in
-        let d' : Behind at.count text (refusal_line (line_answer r x)) text' count = rw n at d in
-        let fits : count + 0 ≤ most_text = omega (arith, refusal_fits, d.size) in
-        rw q (left_as true (sym no.0), (rw no.1 d', record { going = going_on d.len true; room = fits }))
+  module _ (next : Reader) {out : List ℕ} (st : Stepped s (Ok next) out) where
+    accepted : line_answer r x ≡ 0
+    unfolding turned
+    accepted = sym (ap (λ p. p.0) st.steps)
 
-    -- an accepted line finds no text before it
-    module _ (a : t.answer ≡ Accepted) where
-      accepted : line_answer r x ≡ 0
-      accepted = sym number_is ∙ ap answer a
+    reads : next ≡ (turned r x).1
+    reads = ap (λ p. p.1) st.steps
 
-      first : at.count ≡ 0
-      first = let h : at.count + most_text ≤ most_text = rw (goes_on r x accepted) at room_left in omega arith
+    -- it finds no text before it
+    none_before : length s.text ≡ 0
+    none_before = let h : length s.text + most_text ≤ most_text = rw (goes_on r x accepted) at room_left in omega arith
 
-      printed_as : text_of f ≡ done_text t.reader out'
-      unfolding unless_refused
-      printed_as = rw (accepted, sums, reader_is) (at_close r x accepted out)
+    few_lines : length (done_text next out) + 5 ≤ most_text
+    few_lines = let q : ◌≡◌ {A = ℕ} (33 * 2 ^ most_places) 33792 = refl in omega (arith, done_length st.ready)
 
-      few_lines : length (done_text t.reader out') + 5 ≤ most_text
-      few_lines = let q : ◌≡◌ {A = ℕ} (33 * 2 ^ most_places) 33792 = refl in omega (arith, done_length ready)
+    pub out_fits : length s.text + length (done_text next out) ≤ most_text
+    out_fits = omega (arith, none_before, few_lines)
 
-      pub out_fits : at.count + length (done_text t.reader out') ≤ most_text
-      out_fits = omega (arith, first, few_lines)
+    fits_on : length (done_text next out) + cond (is_done next.phase) 5 most_text ≤ most_text
+    fits_on = go (is_done next.phase) refl
+      where
+        go : (d : Bool) → is_done next.phase ≡ d → length (done_text next out) + cond d 5 most_text ≤ most_text
+        go true e = few_lines
+        go false e = let q : length (done_text next out) ≡ 0 = ap length (sym (silent next e out)) in omega arith
 
-      fits_on : length (done_text t.reader out') + cond (is_done t.reader.phase) 5 most_text ≤ most_text
-      fits_on = go (is_done t.reader.phase) refl
-        where
-          go : (d : Bool) → is_done t.reader.phase ≡ d → length (done_text t.reader out') + cond d 5 most_text ≤ most_text
-          go true e = few_lines
-          go false e = let q : length (done_text t.reader out') ≡ 0 = ap length (sym (silent t.reader e out')) in omega arith
+    printed_as : done_text next out ≡ unless_refused (line_answer r x) (out_text x f.state)
+    unfolding unless_refused
+    printed_as = rw (accepted, st.sums, reads) (sym (at_close r x accepted f.state.out))
 
-      pub line_accepted : {e : Fed} {text' : List ℕ} {count : ℕ} → Behind at.count text (done_text t.reader out') text' count
-          → e ≡ ended_as t.reader false count → Ends e text'
+    module _ {text : List ℕ} (put : text ≡ s.text ++ done_text next out) where
+      pub line_accepted : after next out false text ≡ ended s
       unfolding is_refused
-      line_accepted {e} {text'} {count} d q =
-          let room : count + cond (is_done t.reader.phase) 5 most_text ≤ most_text = omega (arith, first, d.size, fits_on) in
-          rw q
-          (left_as false (rw accepted), (rw printed_as d, record { going = going_on d.len false; room = room }))
+      line_accepted = left_as reads st.sums false (rw accepted refl) text (put ∙ ap (λ t. s.text ++ t) printed_as)
+
+      pub accepted_goes : Goes (after next out false text)
+      accepted_goes =
+          let size = length-append s.text (done_text next out) in
+          let room : length text + cond (is_done next.phase) 5 most_text ≤ most_text =
+          rw put (omega (arith, none_before, fits_on, size)) in
+          record { ready = st.ready; few = omega arith; room = room }

@@ -6,6 +6,7 @@ use mathlib.Core.List.{List, [], ◌∷◌, ◌++◌, append-nil, append_assoc}
 use lib.Dec.{eqb}
 use lib.ListN.{length, take, length-append}
 use lib.Seq.{take-append-add}
+use Rattle.std.specs.Prelude.{Option}
 use Rattle.frame.specs.declared.Frame.{Frame}
 use Rattle.frame.specs.Frame.{frame_of}
 use Rattle.frame.proofs.Decoding.{cut_alike}
@@ -42,7 +43,7 @@ module _ (ending : Reader → List ℕ) (last : List ℕ → List (List ℕ)) (t
   all_stopped f bs e = ap₂ ◌++◌ (stopped_said f bs e) (ap tail (stopped_fed f bs e) ∙ none f e)
 
   -- the line of these bytes has ended
-  abbrev after_line : State → Frame → Feeding
+  abbrev after_line : State → Option Frame → Feeding
   after_line s x =
       record {
         state = record { reader = (turned s.reader x).1; out = out_after s.reader x s.out };
@@ -50,12 +51,12 @@ module _ (ending : Reader → List ℕ) (last : List ℕ → List (List ℕ)) (t
         held = [];
       }
 
-  line_said : (s : State) (x : Frame) (bs rest : List ℕ)
+  line_said : (s : State) (x : Option Frame) (bs rest : List ℕ)
       → (let t : State = (after_line s x).state in all (going t []) bs ≡ rest)
-      → unless_refused (line_answer s.reader x) (out_text x.kind s) ++ all (after_line s x) bs
-      ≡ unless_refused (line_answer s.reader x) (out_text x.kind s ++ rest)
+      → unless_refused (line_answer s.reader x) (out_text x s) ++ all (after_line s x) bs
+      ≡ unless_refused (line_answer s.reader x) (out_text x s ++ rest)
   line_said s x bs rest h =
-      by_number (line_answer s.reader x) (out_text x.kind s) rest (all (after_line s x) bs) (all_stopped (after_line s x) bs)
+      by_number (line_answer s.reader x) (out_text x s) rest (all (after_line s x) bs) (all_stopped (after_line s x) bs)
       (λ e. ap (λ t. all (record { state = (after_line s x).state; stopped = t; held = [] }) bs) e ∙ h)
 
   pub by_lines : (s : State) (held input : List ℕ)
@@ -71,10 +72,10 @@ module _ (ending : Reader → List ℕ) (last : List ℕ → List (List ℕ)) (t
           ≡ says_from ending s
           (cond t (held ∷ ended_from [] bs) (ended_from (held ++ b ∷ []) bs) ++ last (cond t (rest_from [] bs) (rest_from (held ++ b ∷ []) bs)))
       go true e line other =
-          let x : Frame = frame_of held in
+          let x : Option Frame = frame_of held in
           let f : Feeding = after_line s x in
           rw (e, cut_alike held)
-          (append_assoc (unless_refused (line_answer s.reader x) (out_text x.kind s)) (said f bs) (tail (fed f bs))
+          (append_assoc (unless_refused (line_answer s.reader x) (out_text x s)) (said f bs) (tail (fed f bs))
           ∙ line_said s x bs (says_from ending (step held s) (ended_from [] bs ++ last (rest_from [] bs))) line)
       go false e line other =
           rw e
@@ -113,7 +114,7 @@ lines_first : (s : State) (ls ms : List (List ℕ)) → let none : Reader → Li
     take (length (says_from none s ls)) (says_from end_line s (ls ++ ms)) ≡ says_from none s ls
 unfolding says_from
 lines_first s [] ms = refl
-lines_first s (l ∷ ls) ms = front (number_of s l) (out_text (frame_of l).kind s) _ _ (lines_first (step l s) ls ms)
+lines_first s (l ∷ ls) ms = front (number_of s l) (out_text (frame_of l) s) _ _ (lines_first (step l s) ls ms)
 
 ended_append : (held xs ys : List ℕ) → ended_from held (xs ++ ys) ≡ ended_from held xs ++ ended_from (rest_from held xs) ys
 unfolding ended_from rest_from

@@ -1,14 +1,25 @@
--- What the first block finds. Assumes nothing.
-use mathlib.Core.Path.{◌≡◌}
+-- A program before its first block. Assumes nothing.
+use mathlib.Core.Path.{◌≡◌, refl}
 use Prim.Native.Nat.{ℕ, ◌*◌, ◌^◌}
 use native.Mathlib.Omega.{arith}
-use mathlib.Core.List.{List}
-use lib.ListN.{length, replicate}
-use Rattle.frame.specs.Frame.{most_line}
-use Rattle.runs.specs.Reader.{most_places}
+use mathlib.Core.List.{List, []}
+use mathlib.Core.Bool.{false}
+use lib.ListN.{replicate}
+use Rattle.runs.specs.declared.Reader.{Reader}
+use Rattle.runs.specs.Reader.{started, most_places}
 use Rattle.frames.proofs.Keeping.{at_start_zeros}
-use Rattle.program.specs.Blocks.{most_text, program_start, Going}
+use Rattle.program.specs.Blocks.{begun}
+use Rattle.program.specs.declared.Program.TheInside.{Inside}
+use Rattle.program.specs.Inside.{seen, Going}
 
-pub at_start : {line out text : List ℕ} → length line ≡ most_line → out ≡ replicate (4 * 2 ^ most_places) 0 → length text ≡ most_text
-    → Going program_start line out text
-at_start l o t = record { ready = at_start_zeros o; few = omega arith; line_room = l; text_room = t }
+module _ {reader : Reader} {out line text : List ℕ} (r : reader ≡ started) (o : out ≡ replicate (4 * 2 ^ most_places) 0)
+    (l : line ≡ []) (t : text ≡ []) where
+  abbrev first : Inside
+  first = record { reader = reader; out = out; line = line; stopped = false; text = text }
+
+  pub goes_first : Going first
+  unfolding started
+  goes_first = rw (r, l, t) (record { ready = at_start_zeros o; few = omega arith; room = omega arith })
+
+  pub seen_first : seen first ≡ record { feeding = begun; text = [] }
+  seen_first = rw (r, o, l, t) refl

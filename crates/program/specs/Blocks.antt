@@ -1,9 +1,7 @@
 -- The program's state, fed the input byte by byte: what a block leaves, and the text that it gives to print. Assumes nothing.
-use Rattle.std.specs.Prelude.{◌≡◌, ℕ, zero, suc, ◌≤◌, Bool, true, false, cond, List, [], ◌∷◌, ◌++◌, eqb, length, take}
+use Rattle.std.specs.Prelude.{ℕ, zero, suc, Bool, true, false, cond, List, [], ◌∷◌, ◌++◌, eqb, take}
 use Rattle.frame.specs.Frame.{frame_of, most_line}
-use Rattle.runs.specs.Reader.{started, Ready}
 use Rattle.runs.specs.State.{State, number_of, step}
-use Rattle.program.specs.declared.Program.{Program}
 use Rattle.program.specs.Printed.{line_feed, start, out_text, unless_refused, end_line}
 
 -- the most text of a block: the lines of 2^10 elements, and a refusal's
@@ -15,6 +13,11 @@ pub record Feeding : Type 0 where
   pub state : State
   pub stopped : Bool
   pub held : List ℕ
+
+-- a program that was fed: what it holds, and what it has to print
+pub record Fed : Type 0 where
+  pub feeding : Feeding
+  pub text : List ℕ
 
 -- before the first byte
 abbrev pub begun : Feeding
@@ -34,7 +37,7 @@ holding f bytes = record { state = f.state; stopped = f.stopped; held = take mos
 
 -- what a line prints
 abbrev pub line_text : State → List ℕ → List ℕ
-line_text s line = unless_refused (number_of s line) (out_text (frame_of line).kind s)
+line_text s line = unless_refused (number_of s line) (out_text (frame_of line) s)
 
 -- one byte: a line feed ends the line; after a refusal nothing is read
 abbrev pub byte_step : Feeding → ℕ → Feeding
@@ -62,19 +65,3 @@ end_text f = last_text f.held
     last_text : List ℕ → List ℕ
     last_text [] = closing f
     last_text (b ∷ bs) = byte_text f line_feed ++ closing (byte_step f line_feed)
-
--- the state that the program has, with the line and the out that are lent
-abbrev pub feeding_of : Program → List ℕ → List ℕ → Feeding
-feeding_of program line out =
-    record { state = record { reader = program.reader; out = out }; stopped = program.stopped; held = take program.used line }
-
--- before the first block
-abbrev pub program_start : Program
-program_start = record { reader = started; used = 0; stopped = false }
-
--- what every block finds, which `start` and every block give
-pub record Going (program : Program) (line out text : List ℕ) : Type 0 where
-  pub ready : Ready program.reader out
-  pub few : program.used ≤ most_line
-  pub line_room : length line ≡ most_line
-  pub text_room : length text ≡ most_text

@@ -1,4 +1,5 @@
 pub mod Printed
 pub mod Blocks
+pub mod Inside
 pub mod Printing
 pub mod Inner

@@ -1,12 +1,13 @@
 -- The program as a function, from its whole input to its whole output (document 01, "Frames"). Assumes nothing.
-use Rattle.std.specs.Prelude.{ℕ, zero, suc, ◌*◌, ◌^◌, cond, List, [], ◌∷◌, ◌++◌, eqb, take, drop, replicate}
+use Rattle.std.specs.Prelude.{ℕ, zero, suc, ◌*◌, ◌^◌, cond, List, [], ◌∷◌, ◌++◌, eqb, take, drop, replicate, Option, Some, None}
 use Rattle.plan.specs.Plan.{places}
-use Rattle.frame.specs.declared.Kind.{Kind}
-use Rattle.frame.specs.declared.Kind.TheVariants as kind
+use Rattle.frame.specs.declared.Frame.{Frame}
+use Rattle.frame.specs.declared.Frame.TheVariants.{Open, Coordinate, Words, Close}
 use Rattle.frame.specs.Hex.{byte_digits, word_digits}
 use Rattle.frame.specs.Frame.{frame_of}
 use Rattle.runs.specs.declared.Reader.{Reader}
-use Rattle.runs.specs.Reader.{most_places, is_done, started}
+use Rattle.runs.specs.Phases.{is_done}
+use Rattle.runs.specs.Reader.{most_places, started}
 use Rattle.runs.specs.State.{State, number_of, step}
 
 abbrev pub line_feed : ℕ
@@ -48,12 +49,12 @@ abbrev pub start : State
 start = record { reader = started; out = replicate (4 * 2 ^ most_places) 0 }
 
 -- "Out lines are printed at `04`"; an accepted line of another kind prints nothing
-abbrev pub out_text : Kind → State → List ℕ
-out_text kind.Close s = out_lines (places s.reader.session.plan) s.out
-out_text kind.Open s = []
-out_text kind.Coordinate s = []
-out_text kind.Words s = []
-out_text kind.NoFrame s = []
+abbrev pub out_text : Option Frame → State → List ℕ
+out_text (Some Close) s = out_lines (places s.reader.session.plan) s.out
+out_text (Some (Open opening)) s = []
+out_text (Some (Coordinate index coordinate)) s = []
+out_text (Some (Words words)) s = []
+out_text None s = []
 
 -- what comes of a line's number: where it is refused its line, "and the program stops"; else what is said
 unfoldable pub unless_refused : ℕ → List ℕ → List ℕ
@@ -64,7 +65,7 @@ unless_refused (suc n) text = refusal_line (suc n)
 unfoldable pub says_from : (Reader → List ℕ) → State → List (List ℕ) → List ℕ
 says_from ending s [] = ending s.reader
 says_from ending s (line ∷ lines) =
-    unless_refused (number_of s line) (out_text (frame_of line).kind s ++ says_from ending (step line s) lines)
+    unless_refused (number_of s line) (out_text (frame_of line) s ++ says_from ending (step line s) lines)
 
 -- "input that ends without `04` is 9"
 abbrev pub end_line : Reader → List ℕ

@@ -3,191 +3,161 @@
 //     block --> | bytes of a line that has not ended | lines that end --> one step each --> text
 #![tactic(auto)]
 
-ghost use Rattle.std.specs.Prelude.{◌≡◌, false, ◌+◌, ◌≤◌, length, take};
-ghost use Rattle.runs.specs.Reader.{Ready};
-ghost use Rattle.program.specs.Printed.{end_line};
-ghost use Rattle.program.specs.Blocks.{most_text, program_start, line_ended, fed, said, end_text, feeding_of, Going};
-ghost use Rattle.program.specs.Inner.{Behind, Goes, with_used, ended_as, text_of, done_text};
+ghost use Rattle.std.specs.Prelude.{◌≡◌, [], true, false, ◌++◌, ◌≤◌, length, replicate};
+ghost use Rattle.frame.specs.Frame.{most_line};
+ghost use Rattle.program.specs.Blocks.{most_text, Fed, begun, line_ended, holding, fed, said, closing, end_text};
+ghost use Rattle.program.specs.Inner.{text_of, last_ended};
 
+use buffer::Buffer;
 use runs::Reader;
-use table::{Refusal, Verdict};
+use std::marker::Model;
+use table::Refusal;
 
-pub mod text;
+mod buffer;
+mod text;
+
+// The words of the sums of 2^10 elements.
+const OUT_WORDS: usize = 4096;
 
 // The most text of a block: the lines of 2^10 elements, and a refusal's.
 pub const MOST_TEXT: usize = 33797;
 
-// What the lines so far left, how many bytes are held of the line that has not ended, and whether a line was refused.
-#[derive(Clone, Copy)]
+// What the lines so far left, the sums, the bytes of the line that has not ended, whether a line was refused, and the text to print.
+#[derive(Drop)]
 pub struct Program {
-    pub reader: Reader,
-    pub used: usize,
-    pub stopped: bool,
+    reader: Reader,
+    out: [u32; OUT_WORDS],
+    line: Buffer<{ frame::MOST_LINE }>,
+    stopped: bool,
+    text: Buffer<MOST_TEXT>,
 }
 
-// The state after a block, and how many bytes of text there are to print.
-#[derive(Clone, Copy)]
-pub struct Fed {
-    pub program: Program,
-    pub count: usize,
+impl Model for Program {
+    ghost use Rattle.program.specs.Blocks.{Fed};
+
+    ghost Value = { Fed };
+
+    ghost use Rattle.program.specs.Inside.{seen, Going};
+
+    ghost view = { seen };
+
+    ghost invariant = { Going };
 }
 
-// Before the first block.
-pub fn start() -> Program
-    ensures { result ≡ program_start }
-{
-    Program {
-        reader: frames::start(),
-        used: 0,
-        stopped: false,
-    }
-}
-
-// A block of input. line holds a line that has not ended, out the sums; the text to print is at the front of text. What it requires
-// holds of `start` with rooms of these sizes (`at_start` of proofs/Starting.antt), and each block gives it for the next.
-pub fn feed(
-    program: Program,
-    block: &[u8],
-    line: &mut [u8],
-    out: &mut [u32],
-    text: &mut [u8],
-) -> Fed
-    requires { Going program line.old out.old text.old }
-    ensures out_after { feeding_of result.program line.new out.new
-        ≡ fed (feeding_of program line.old out.old) block.now }
-    ensures text_after { take result.count text.new
-        ≡ said (feeding_of program line.old out.old) block.now }
-    ensures going { Going result.program line.new out.new text.new × (result.count ≤ most_text) }
-{
-    if program.stopped {
-        return Fed { program, count: 0 };
-    }
-    lines(program, block, line, out, text)
-}
-
-// The lines that end in the block, one after another; what is left is held.
-fn lines(program: Program, block: &[u8], line: &mut [u8], out: &mut [u32], text: &mut [u8]) -> Fed
-    requires { Going program line.old out.old text.old × (program.stopped ≡ false) }
-    ensures out_after { feeding_of result.program line.new out.new
-        ≡ fed (feeding_of program line.old out.old) block.now }
-    ensures text_after { take result.count text.new
-        ≡ said (feeding_of program line.old out.old) block.now }
-    ensures goes { Goes result.program line.new out.new text.new result.count }
-{
-    let mut at = Fed { program, count: 0 };
-    let mut start = 0;
-    while start < block.len() {
-        let stop = start + text::line_length(block, start);
-        let used = text::hold(line, at.program.used, &block[start..stop]);
-        at = with_used(at, used);
-        if stop == block.len() {
-            return at;
-        }
-        at = one_line(at, line, out, text);
-        if at.program.stopped {
-            return at;
-        }
-        start = stop + 1;
-    }
-    at
-}
-
-fn with_used(at: Fed, used: usize) -> Fed
-    ensures { result ≡ with_used at used }
-{
-    let reader = at.program.reader;
-    let program = Program {
-        reader,
-        used,
-        stopped: at.program.stopped,
-    };
-    Fed {
-        program,
-        count: at.count,
-    }
-}
-
-// The line that is held has ended: one step, and its text behind what there is.
-fn one_line(at: Fed, line: &[u8], out: &mut [u32], text: &mut [u8]) -> Fed
-    requires { Goes at.program line.now out.old text.old at.count × (at.program.stopped ≡ false) }
-    ensures out_after { feeding_of result.program line.now out.new
-        ≡ line_ended (feeding_of at.program line.now out.old) }
-    ensures behind { Behind at.count text.old
-        (text_of (feeding_of at.program line.now out.old)) text.new result.count }
-    ensures goes { Goes result.program line.now out.new text.new result.count }
-{
-    let reader = at.program.reader;
-    let used = at.program.used;
-    let frame = frame::decode(&line[..used]);
-    let turn = frames::step(reader, frame, out);
-    let answer = turn.answer;
-    let next = turn.reader;
-    match answer {
-        Verdict::Refused(refusal) => {
-            let count = text::put_refusal(refusal, at.count, text);
-            ended(next, true, count)
-        }
-        Verdict::Accepted => {
-            let count = put_out(next, out, at.count, text);
-            ended(next, false, count)
+impl Program {
+    // Before the first block.
+    pub fn new() -> Self
+        ensures { result ≡ record { feeding = begun; text = [] } }
+    {
+        Program {
+            reader: frames::start(),
+            out: out_room(),
+            line: Buffer::new(),
+            stopped: false,
+            text: Buffer::new(),
         }
     }
+
+    // A block of input: the lines that end in it, one after another; what is left is held.
+    pub fn feed(&mut self, block: &[u8])
+        ensures { self.new ≡ record { feeding = fed self.old.feeding block.now; text = said self.old.feeding block.now } }
+    {
+        self.clear_text();
+        let mut rest = block;
+        while !self.is_stopped() {
+            let Some(end) = text::find_line_feed(rest) else {
+                self.hold(rest);
+                return;
+            };
+            self.hold(&rest[..end]);
+            self.end_line();
+            rest = &rest[end + 1..];
+        }
+    }
+
+    // The input has ended: the last line may lack its line feed, and without `04` there are words missing.
+    pub fn end(&mut self)
+        ensures text { self.new.text ≡ end_text self.old.feeding }
+        ensures over { self.new.feeding.stopped ≡ true }
+    {
+        self.clear_text();
+        self.end_last_line();
+        self.close();
+    }
+
+    // Whether a line was refused, or the input has ended.
+    pub fn is_stopped(&self) -> bool
+        ensures { result ≡ self.now.feeding.stopped }
+    {
+        self.stopped
+    }
+
+    // What the last block, or the end, gives to print.
+    pub fn text(&self) -> &[u8]
+        ensures text { result.now ≡ self.now.text }
+        ensures upper_bound { length result.now ≤ most_text }
+    {
+        self.text.as_slice()
+    }
+
+    fn clear_text(&mut self)
+        ensures { self.new ≡ record { feeding = self.old.feeding; text = [] } }
+    {
+        self.text.clear();
+    }
+
+    // More bytes of a line.
+    fn hold(&mut self, bytes: &[u8])
+        ensures line { self.new ≡ record { feeding = holding self.old.feeding bytes.now; text = self.old.text } }
+        ensures few { length self.old.feeding.held ≤ most_line }
+    {
+        self.line.hold(bytes);
+    }
+
+    // The line that is held has ended: one step, and its text.
+    fn end_line(&mut self)
+        requires { self.old.feeding.stopped ≡ false }
+        ensures { self.new ≡ record { feeding = line_ended self.old.feeding; text = self.old.text ++ text_of self.old.feeding } }
+    {
+        let frame = frame::decode(self.line.as_slice());
+        self.line.clear();
+        match frames::step(self.reader, frame, &mut self.out) {
+            Ok(next) => {
+                self.reader = next;
+                text::put_out(&next, &self.out, &mut self.text);
+            }
+            Err(refusal) => {
+                self.stopped = true;
+                text::put_refusal(refusal, &mut self.text);
+            }
+        }
+    }
+
+    // A last line that lacks its line feed.
+    fn end_last_line(&mut self)
+        ensures { self.new ≡ last_ended self.old }
+    {
+        if self.stopped || self.line.as_slice().is_empty() {
+            return;
+        }
+        self.end_line();
+    }
+
+    // 9, where no `04` came.
+    fn close(&mut self)
+        ensures text { self.new.text ≡ self.old.text ++ closing self.old.feeding }
+        ensures over { self.new.feeding.stopped ≡ true }
+    {
+        if !self.stopped && !self.reader.phase.is_done() {
+            text::put_refusal(Refusal::Missing, &mut self.text);
+        }
+        self.stopped = true;
+    }
 }
 
-fn ended(reader: Reader, stopped: bool, count: usize) -> Fed
-    ensures { result ≡ ended_as reader stopped count }
+// Room for the sums of 2^10 elements.
+fn out_room() -> [u32; OUT_WORDS]
+    ensures { result ≡ replicate 4096 0 }
 {
-    let program = Program {
-        reader,
-        used: 0,
-        stopped,
-    };
-    Fed { program, count }
-}
-
-// After an accepted line: at `04` the out lines.
-fn put_out(reader: Reader, out: &[u32], at: usize, text: &mut [u8]) -> usize
-    requires { Ready reader out.now × (at + length (done_text reader out.now) ≤ length text.old) }
-    ensures { Behind at text.old (done_text reader out.now) text.new result }
-{
-    let phase = reader.phase;
-    if !frames::is_done(phase) {
-        return at;
-    }
-    let places = table::rows(reader.session.plan.n - reader.session.plan.k);
-    text::put_elements(out, places, at, text)
-}
-
-// The input has ended: the last line may lack its line feed, and without `04` there are words missing.
-pub fn end(program: Program, line: &[u8], out: &mut [u32], text: &mut [u8]) -> usize
-    requires { Going program line.now out.old text.old }
-    ensures text_after { take result text.new ≡ end_text (feeding_of program line.now out.old) }
-    ensures upper_bound { result ≤ most_text }
-{
-    if program.stopped {
-        return 0;
-    }
-    let at = Fed { program, count: 0 };
-    if program.used == 0 {
-        return put_missing(at, text);
-    }
-    let last = one_line(at, line, out, text);
-    if last.program.stopped {
-        return last.count;
-    }
-    put_missing(last, text)
-}
-
-// 9, where no `04` came.
-fn put_missing(at: Fed, text: &mut [u8]) -> usize
-    requires { (length text.old ≡ most_text) × (at.count + 5 ≤ most_text) }
-    ensures behind { Behind at.count text.old (end_line at.program.reader) text.new result }
-    ensures upper_bound { result ≤ most_text }
-{
-    let reader = at.program.reader;
-    let phase = reader.phase;
-    if frames::is_done(phase) {
-        return at.count;
-    }
-    text::put_refusal(Refusal::Missing, at.count, text)
+    [0u32; OUT_WORDS]
 }

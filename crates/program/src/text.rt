@@ -1,83 +1,75 @@
 // Lines in and lines out.
-ghost use Rattle.std.specs.Prelude.{◌≡◌, ◌+◌, ◌*◌, ◌≤◌, length, take, drop};
+ghost use Rattle.std.specs.Prelude.{◌≡◌, ◌==◌, ◌+◌, ◌*◌, ◌≤◌, ◌++◌, length, take, drop, position, replicate};
 ghost use Rattle.table.specs.Refusals.{number};
-ghost use Rattle.program.specs.Printed.{out_line, out_lines, refusal_line};
-ghost use Rattle.frame.specs.Frame.{most_line};
-ghost use Rattle.program.specs.Inner.{until_feed, Held, Behind};
+ghost use Rattle.runs.specs.Reader.{Ready};
+ghost use Rattle.program.specs.Printed.{line_feed, out_line, out_lines, refusal_line};
+ghost use Rattle.program.specs.Blocks.{most_text};
+ghost use Rattle.program.specs.Inner.{done_text};
 
-use table::{Refusal, Verdict};
+use crate::MOST_TEXT;
+use crate::buffer::Buffer;
+use runs::Reader;
+use table::Refusal;
 
-const LINE_FEED: u8 = 10;
+const LINE_FEED: u8 = b'\n';
 
-// How many bytes come before the first line feed from byte `at` on, or to the end.
-pub fn line_length(bytes: &[u8], at: usize) -> usize
-    requires { at ≤ length bytes.now }
-    ensures { (result ≡ length (until_feed (drop at bytes.now))) × (at + result ≤ length bytes.now) }
+// The bytes of an element's line: 32 digits, and a line feed.
+const LINE_BYTES: usize = 33;
+
+// Where the first line feed is.
+pub fn find_line_feed(bytes: &[u8]) -> Option<usize>
+    ensures { result ≡ position (λ b. b == line_feed) bytes.now }
 {
-    let mut end = at;
-    while end < bytes.len() {
-        if bytes[end] == LINE_FEED {
-            return end - at;
-        }
-        end += 1;
-    }
-    end - at
+    bytes.iter().position(|b| *b == LINE_FEED)
 }
 
-// Puts bytes behind the first `used` of line, as far as they have room, and answers how many are held now.
-pub fn hold(line: &mut [u8], used: usize, bytes: &[u8]) -> usize
-    requires { (length line.old ≡ most_line) × (used ≤ most_line) }
-    ensures { Held line.old used bytes.now line.new result }
+// After an accepted line: at `04` the out lines.
+pub fn put_out(reader: &Reader, out: &[u32], text: &mut Buffer<MOST_TEXT>)
+    requires ready { Ready reader.now out.now }
+    requires room { length text.old + length (done_text reader.now out.now) ≤ most_text }
+    ensures { text.new ≡ text.old ++ done_text reader.now out.now }
 {
-    let room = frame::MOST_LINE - used;
-    let count = table::min(bytes.len(), room);
-    for i in 0..count {
-        line[used + i] = bytes[i];
+    if !reader.phase.is_done() {
+        return;
     }
-    used + count
+    let places = table::rows(reader.session.plan.n - reader.session.plan.k);
+    put_elements(out, places, text);
 }
 
-// The lines of the elements of out, behind the first `at` bytes of text. Answers how many bytes there are then.
-pub fn put_elements(out: &[u32], places: usize, at: usize, text: &mut [u8]) -> usize
-    requires { (4 * places ≤ length out.now) × (at + 33 * places ≤ length text.old) }
-    ensures { Behind at text.old (out_lines places out.now) text.new result }
+// The lines of elements.
+fn put_elements(out: &[u32], places: usize, text: &mut Buffer<MOST_TEXT>)
+    requires there { 4 * places ≤ length out.now }
+    requires room { length text.old + 33 * places ≤ most_text }
+    ensures { text.new ≡ text.old ++ out_lines places out.now }
 {
-    let mut end = at;
     for i in 0..places {
-        let stop = end + 33;
-        put_element(out, i, &mut text[end..stop]);
-        end = stop;
+        text.extend(&element_line(out, i));
     }
-    end
 }
 
 // The line of element i.
-fn put_element(out: &[u32], i: usize, line: &mut [u8])
-    requires { (4 * i + 4 ≤ length out.now) × (length line.old ≡ 33) }
-    ensures { line.new ≡ out_line (take 4 (drop (4 * i) out.now)) }
+fn element_line(out: &[u32], i: usize) -> [u8; LINE_BYTES]
+    requires { 4 * i + 4 ≤ length out.now }
+    ensures { result ≡ out_line (take 4 (drop (4 * i) out.now)) }
 {
-    let start = 4 * i;
-    let stop = start + 4;
-    frame::digits(&out[start..stop], &mut line[..32]);
-    line[32] = LINE_FEED;
+    let mut line = line_room();
+    frame::digits(&out[4 * i..4 * i + 4], &mut line[..32]);
+    line
 }
 
-// The line of a refusal, behind the first `at` bytes of text. Answers how many bytes there are then.
-pub fn put_refusal(refusal: Refusal, at: usize, text: &mut [u8]) -> usize
-    requires { at + 5 ≤ length text.old }
-    ensures { Behind at text.old (refusal_line (number refusal)) text.new result }
+// Room for an element's digits, and a line feed behind them.
+fn line_room() -> [u8; LINE_BYTES]
+    ensures { result ≡ replicate 33 line_feed }
 {
-    let stop = at + 5;
-    fill_refusal(refusal, &mut text[at..stop]);
-    stop
+    [LINE_FEED; LINE_BYTES]
 }
 
-fn fill_refusal(refusal: Refusal, line: &mut [u8])
-    requires { length line.old ≡ 5 }
-    ensures { line.new ≡ refusal_line (number refusal) }
+// The line of a refusal.
+pub fn put_refusal(refusal: Refusal, text: &mut Buffer<MOST_TEXT>)
+    requires { length text.old + 5 ≤ most_text }
+    ensures { text.new ≡ text.old ++ refusal_line (number refusal) }
 {
-    line[0] = 102;
-    line[1] = 102;
-    frame::put_byte(line, 2, Verdict::Refused(refusal).answer());
-    line[4] = LINE_FEED;
+    let mut line = *b"ff00\n";
+    frame::put_byte(&mut line, 2, refusal.number());
+    text.extend(&line);
 }

@@ -1,44 +1,47 @@
--- What an accepted line says of its arguments, kind by kind. Assumes nothing.
-use mathlib.Core.Path.{◌≡◌, sym, subst}
+-- What an accepted line says of its arguments, frame by frame. Assumes nothing.
+use mathlib.Core.Path.{◌≡◌, sym}
 use mathlib.Core.Bool.{false}
-use Prim.Native.Nat.{◌+◌, ◌-◌, ◌≤◌, ◌<◌}
+use Prim.Native.Nat.{ℕ, ◌+◌, ◌-◌, ◌≤◌, ◌<◌}
 use native.Mathlib.Omega.{arith}
+use mathlib.Core.List.{List}
 use lib.ListN.{length}
+use Rattle.std.specs.Prelude.{Option, Some, None}
 use borrow.Author.Tests.{ltb-false, leb-false}
 use Rattle.algebra.specs.Words.{unreduced}
 use Rattle.field.specs.Field.{p, Reduced}
+use Rattle.field.specs.declared.Element.{Element}
 use Rattle.table.specs.Refusals.{most}
 use Rattle.table.proofs.Tests.{same}
 use Rattle.table.proofs.Verdicts.{Numbered, Clear, clear}
 use Rattle.plan.specs.Plan.{capacity}
-use Rattle.frame.specs.declared.Kind.{Kind}
-use Rattle.frame.specs.declared.Kind.TheVariants.{Open, Coordinate, Words, Close, NoFrame}
+use Rattle.frame.specs.declared.Opening.{Opening}
 use Rattle.frame.specs.declared.Frame.{Frame}
-use Rattle.frame.specs.Frame.{words_of}
+use Rattle.frame.specs.declared.Frame.TheVariants.{Open, Coordinate, Words, Close}
 use Rattle.runs.specs.declared.Reader.{Reader}
-use Rattle.runs.specs.Reader.{most_places, open_tests, coordinate_tests, kind_tests, line_tests, line_answer}
+use Rattle.runs.specs.Reader.{most_places, open_tests, coordinate_tests, words_tests, own_tests, line_tests, line_answer}
 
 -- an `01`
-pub record Opens (f : Frame) : Type 0 where
-  pub small : f.n ≤ most
-  pub narrow : f.k ≤ most
-  pub fits : f.k ≤ f.n
-  pub few : f.n - f.k ≤ most_places
-  pub scale_is : Reduced f.element
+pub record Opens (o : Opening) : Type 0 where
+  pub small : o.n ≤ most
+  pub narrow : o.k ≤ most
+  pub fits : o.k ≤ o.n
+  pub few : o.n - o.k ≤ most_places
+  pub scale_is : Reduced o.scale
 
 -- an `02`
-pub record Notes (r : Reader) (f : Frame) : Type 0 where
-  pub next : f.index ≡ r.came
-  pub below : f.index < r.session.plan.k
-  pub coordinate_is : Reduced f.element
+pub record Notes (r : Reader) (index : ℕ) (coordinate : Element) : Type 0 where
+  pub next : index ≡ r.came
+  pub below : index < r.session.plan.k
+  pub coordinate_is : Reduced coordinate
 
--- an `03`
-pub record Feeds (r : Reader) (f : Frame) : Type 0 where
-  pub below : unreduced p (words_of f) ≡ false
-  pub within : r.session.taken + length (words_of f) ≤ capacity r.session.plan
+-- an `03`: an `01` came before, and no coordinate is missing
+pub record Feeds (r : Reader) (words : List ℕ) : Type 0 where
+  pub all : r.session.plan.k ≤ r.came
+  pub below : unreduced p words ≡ false
+  pub within : r.session.taken + length words ≤ capacity r.session.plan
 
-pub open_clear : (f : Frame) → Clear (open_tests f) → Opens f
-open_clear f h =
+pub open_clear : (o : Opening) → Clear (open_tests o) → Opens o
+open_clear o h =
     record {
       small = ltb-false _ _ h.0;
       narrow = ltb-false _ _ h.1.0;
@@ -47,8 +50,8 @@ open_clear f h =
       scale_is = record { words_below = h.1.1.1.0 };
     }
 
-pub notes_clear : (r : Reader) (f : Frame) → Clear (coordinate_tests r f) → Notes r f
-notes_clear r f h =
+pub notes_clear : (r : Reader) (index : ℕ) (coordinate : Element) → Clear (coordinate_tests r index coordinate) → Notes r index coordinate
+notes_clear r index coordinate h =
     let first = h.0 in
     let second = h.1.0 in
     record {
@@ -57,30 +60,18 @@ notes_clear r f h =
       coordinate_is = record { words_below = h.1.1.0 };
     }
 
-numbered : (k : Kind) (r : Reader) (f : Frame) → Numbered (kind_tests k r f)
-numbered Open r f = tt
-numbered Coordinate r f = tt
-numbered Words r f = tt
-numbered Close r f = tt
-numbered NoFrame r f = tt
+pub feeds_clear : (r : Reader) (words : List ℕ) → Clear (words_tests r words) → Feeds r words
+feeds_clear r words h =
+    record { all = ltb-false _ _ h.0; below = h.1.0; within = ltb-false _ _ h.1.1.0 }
 
-module _ (r : Reader) (f : Frame) (a : line_answer r f ≡ 0) where
-  -- none of its tests holds
-  pub line_clear : Clear (line_tests r f)
-  unfolding line_answer
-  line_clear = clear (line_tests r f) (numbered f.kind r f) (sym a)
+numbered : (r : Reader) (x : Option Frame) → Numbered (own_tests r x)
+numbered r (Some (Open o)) = tt
+numbered r (Some (Coordinate index coordinate)) = tt
+numbered r (Some (Words words)) = tt
+numbered r (Some Close) = tt
+numbered r None = tt
 
-  tests : (k : Kind) → f.kind ≡ k → Clear (kind_tests k r f)
-  tests k e = subst (λ (j : Kind). Clear (kind_tests j r f)) e line_clear.1.1
-
-  pub opens : f.kind ≡ Open → Opens f
-  opens e = open_clear f (tests Open e)
-
-  pub notes : f.kind ≡ Coordinate → Notes r f
-  notes e = notes_clear r f (tests Coordinate e)
-
-  pub feeds : f.kind ≡ Words → Feeds r f
-  feeds e =
-      let h = tests Words e in
-      let fits = h.1.1.0 in
-      record { below = h.1.0; within = omega (arith, ltb-false) }
+-- none of an accepted line's tests holds
+pub line_clear : (r : Reader) (x : Option Frame) → line_answer r x ≡ 0 → Clear (line_tests r x)
+unfolding line_answer
+line_clear r x a = clear (line_tests r x) (numbered r x) (sym a)

@@ -4,7 +4,6 @@ use mathlib.Core.Bool.{false}
 use Prim.Native.Nat.{ℕ, ◌+◌}
 use mathlib.Core.List.{List, [], append-nil}
 use lib.ListN.{length, length-append}
-use Rattle.frame.specs.Frame.{words_of}
 use Rattle.runs.specs.Reader.{started}
 use Rattle.runs.specs.State.{State}
 use Rattle.runs.specs.Runs.{start, words_by, is_settled}
@@ -21,11 +20,11 @@ counted_start out = record { count = refl; none = λ q. refl }
 pub counted_keeps : Keeps words_by Counted
 counted_keeps =
     record {
-      opens = λ s f ws i e h.
+      opens = λ s o ws i e h.
           let z : ws ≡ [] = i.none (ap is_settled e) in
           rw z (record { count = refl; none = λ q. refl });
-      notes = λ s f ws i e h l. rw append-nil (record { count = i.count; none = i.none });
-      takes = λ s f ws i h.
-          record { count = ap (λ n. n + length (words_of f)) i.count ∙ sym (length-append ws (words_of f)); none = λ q. never q };
-      closes = λ s f ws i h. rw append-nil (record { count = i.count; none = λ q. never q });
+      notes = λ s j x ws i e h l. rw append-nil (record { count = i.count; none = i.none });
+      takes = λ s more ws i h.
+          record { count = ap (λ n. n + length more) i.count ∙ sym (length-append ws more); none = λ q. never q };
+      closes = λ s ws i h. rw append-nil (record { count = i.count; none = λ q. never q });
     }

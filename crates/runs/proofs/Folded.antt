@@ -13,11 +13,9 @@ use Rattle.plan.specs.declared.Plan.{Plan}
 use Rattle.plan.specs.Plan.{places, fold_of, gained_by}
 use Rattle.plan.proofs.Padding.{take_zeros}
 use Rattle.plan.proofs.Joining as plan
-use Rattle.frame.specs.declared.Kind.TheVariants as kind
-use Rattle.frame.specs.declared.Frame.{Frame}
-use Rattle.frame.specs.Frame.{words_of}
+use Rattle.frame.specs.declared.Opening.{Opening}
 use Rattle.runs.specs.declared.Phase.TheVariants as phase
-use Rattle.runs.specs.Reader.{most_places, used, started, opened, with_coordinate, out_by}
+use Rattle.runs.specs.Reader.{most_places, used, started, opened, with_coordinate, gained}
 use Rattle.runs.proofs.Accepted.{Opens}
 use Rattle.runs.specs.State.{State}
 use Rattle.runs.specs.Runs.{start, words_by, is_opened, is_settled}
@@ -35,7 +33,7 @@ unfolding started
 folded_start out l = record { counted = counted_start out; room = λ q. l; folds = λ q. never (sym q) }
 
 -- at `01` out is zeroed
-opened_folds : (f : Frame) (out : List ℕ) → Opens f → length out ≡ 4 * 2 ^ most_places
+opened_folds : (f : Opening) (out : List ℕ) → Opens f → length out ≡ 4 * 2 ^ most_places
     → take (used (opened f)) (replicate (length out) 0) ≡ fold_of (opened f).session.plan []
 opened_folds f out h l =
     take_zeros (used (opened f)) (length out) (omega (arith, pow_mono h.few)) ∙ plan.none (opened f).session.plan
@@ -53,12 +51,12 @@ module _ (s : State) (ws : List ℕ) (d : Folded s ws) where
       d.folds (ap is_opened q) ∙ ap (fold_of was) z ∙ sym (plan.none was) ∙ plan.none now ∙ ap (fold_of now) (sym z)
 
   -- at `03` out's used part gains the words
-  fed_folds : (f : Frame) → is_opened s.reader.phase ≡ true
-      → take (used s.reader) (out_by kind.Words s.reader f s.out) ≡ fold_of was (ws ++ words_of f)
-  fed_folds f q =
+  fed_folds : (more : List ℕ) → is_opened s.reader.phase ≡ true
+      → take (used s.reader) (gained s.reader more s.out) ≡ fold_of was (ws ++ more)
+  fed_folds more q =
       take_at _ (drop (used s.reader) s.out) (used s.reader) (table_length (places was) _)
-      ∙ ap₂ (λ n l. gained_by was n (words_of f) l) d.counted.count (d.folds q)
-      ∙ plan.joined was ws (words_of f)
+      ∙ ap₂ (λ n l. gained_by was n more l) d.counted.count (d.folds q)
+      ∙ plan.joined was ws more
 
 pub folded_keeps : Keeps words_by Folded
 folded_keeps =
@@ -71,23 +69,23 @@ folded_keeps =
                 opened_folds f s.out h (i.room (ap is_opened e))
                 ∙ ap (λ l. fold_of (opened f).session.plan (l ++ [])) (sym (i.counted.none (ap is_settled e)));
           };
-      notes = λ s f ws i e h l.
+      notes = λ s j x ws i e h l.
           rw append-nil
           (record {
-            counted = rw append-nil at (counted_keeps.notes s f ws i.counted e h l);
+            counted = rw append-nil at (counted_keeps.notes s j x ws i.counted e h l);
             room = i.room;
-            folds = λ q. put_folds s ws i e f.index f.element;
+            folds = λ q. put_folds s ws i e j x;
           });
-      takes = λ s f ws i h.
+      takes = λ s more ws i h.
           record {
-            counted = counted_keeps.takes s f ws i.counted h;
+            counted = counted_keeps.takes s more ws i.counted h;
             room = λ q. never q;
-            folds = λ q. fed_folds s ws i f h.opened;
+            folds = λ q. fed_folds s ws i more h.opened;
           };
-      closes = λ s f ws i h.
+      closes = λ s ws i h.
           rw append-nil
           (record {
-            counted = rw append-nil at (counted_keeps.closes s f ws i.counted h);
+            counted = rw append-nil at (counted_keeps.closes s ws i.counted h);
             room = λ q. never q;
             folds = λ q. i.folds h.opened;
           });

@@ -9,8 +9,7 @@ use Rattle.table.specs.Table.{put_at}
 use Rattle.table.specs.Refusals.{most}
 use Rattle.plan.specs.Plan.{padded}
 use Rattle.plan.proofs.Padding.{padded_put}
-use Rattle.frame.specs.declared.Frame.{Frame}
-use Rattle.frame.specs.Frame.{words_of}
+use Rattle.field.specs.declared.Element.{Element}
 use Rattle.runs.specs.declared.Phase.{Phase}
 use Rattle.runs.specs.declared.Phase.TheVariants as phase
 use Rattle.runs.specs.Reader.{started, opened, noted}
@@ -47,14 +46,14 @@ unfolding started
 given_start out = fresh (start out) refl refl (omega arith) refl
 
 -- an accepted `02`
-noted_keeps : (s : State) (f : Frame) (ws : List ℕ) → Given s ws → s.reader.phase ≡ phase.Points → Notes s.reader f
-    → length f.element.c ≡ 4 → Given (state (noted s.reader f) s.out) (ws ++ f.element.c)
-noted_keeps s f ws i e h l =
+noted_keeps : (s : State) (j : ℕ) (x : Element) (ws : List ℕ) → Given s ws → s.reader.phase ≡ phase.Points → Notes s.reader j x
+    → length x.c ≡ 4 → Given (state (noted s.reader j x) s.out) (ws ++ x.c)
+noted_keeps s j x ws i e h l =
     record {
       coordinates =
-          ap (λ cs. put_at cs f.index f.element) i.coordinates
-          ∙ padded_put ws f.index f.element (omega (arith, i.count, h.next)) (omega (arith, i.narrow, h.below)) l;
-      count = length-append ws f.element.c ∙ omega (arith, i.count, l);
+          ap (λ cs. put_at cs j x) i.coordinates
+          ∙ padded_put ws j x (omega (arith, i.count, h.next)) (omega (arith, i.narrow, h.below)) l;
+      count = length-append ws x.c ∙ omega (arith, i.count, l);
       none = λ q. never (sym (ap is_opened e) ∙ q);
       narrow = i.narrow;
       within = omega (arith, h.next, h.below);
@@ -77,11 +76,11 @@ marked_keeps s ws i h ph o taken out =
 pub given_keeps : Keeps coordinate_by Given
 given_keeps =
     record {
-      opens = λ s f ws i e h. rw (i.none (ap is_opened e)) (fresh (state (opened f) _) refl refl h.narrow refl);
-      notes = λ s f ws i e h l. noted_keeps s f ws i e h l;
-      takes = λ s f ws i h.
-          rw append-nil (marked_keeps s ws i h phase.Words refl (s.reader.session.taken + length (words_of f)) _);
-      closes = λ s f ws i h. rw append-nil (marked_keeps s ws i h phase.Done refl s.reader.session.taken _);
+      opens = λ s o ws i e h. rw (i.none (ap is_opened e)) (fresh (state (opened o) _) refl refl h.narrow refl);
+      notes = λ s j x ws i e h l. noted_keeps s j x ws i e h l;
+      takes = λ s more ws i h.
+          rw append-nil (marked_keeps s ws i h phase.Words refl (s.reader.session.taken + length more) _);
+      closes = λ s ws i h. rw append-nil (marked_keeps s ws i h phase.Done refl s.reader.session.taken _);
     }
 
 -- from the first `03` or `04` on there are k of them

@@ -22,16 +22,16 @@ indexed_start out = record { indices = refl; none = λ q. refl }
 pub indexed_keeps : Keeps index_by Indexed
 indexed_keeps =
     record {
-      opens = λ s f is i e h.
+      opens = λ s o is i e h.
           let z : is ≡ [] = i.none (ap is_opened e) in
           rw z (record { indices = refl; none = λ q. refl });
-      notes = λ s f is i e h l.
+      notes = λ s j x is i e h l.
           record {
             indices = rw (add-one s.reader.came, i.indices, h.next);
             none = λ q. never (sym (ap is_opened e) ∙ q);
           };
-      takes = λ s f is i h. rw append-nil (record { indices = i.indices; none = λ q. never q });
-      closes = λ s f is i h. rw append-nil (record { indices = i.indices; none = λ q. never q });
+      takes = λ s ws is i h. rw append-nil (record { indices = i.indices; none = λ q. never q });
+      closes = λ s is i h. rw append-nil (record { indices = i.indices; none = λ q. never q });
     }
 
 length_up_to : (n : ℕ) → length (up_to n) ≡ n

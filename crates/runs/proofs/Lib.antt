@@ -5,4 +5,5 @@ pub mod Counted
 pub mod Folded
 pub mod Given
 pub mod Indexed
+pub mod Over
 pub mod Runs

@@ -5,7 +5,8 @@ use Prim.Native.Nat.{ℕ}
 use mathlib.Core.List.{List, [], ◌∷◌, append-nil}
 use Rattle.runs.specs.Reader.{started}
 use Rattle.runs.specs.State.{State}
-use Rattle.runs.specs.Runs.{start, Opening, held_by, opening_by, is_opened}
+use Rattle.frame.specs.declared.Opening.{Opening}
+use Rattle.runs.specs.Runs.{start, held_by, opening_by, is_opened}
 use Rattle.runs.proofs.Steps.{never, Keeps}
 
 pub record Opened (s : State) (os : List Opening) : Type 0 where
@@ -19,10 +20,10 @@ opened_start out = record { none = λ q. refl; held = λ q. never (sym q) }
 pub opened_keeps : Keeps opening_by Opened
 opened_keeps =
     record {
-      opens = λ s f os i e h.
+      opens = λ s o os i e h.
           let z : os ≡ [] = i.none (ap is_opened e) in
           rw z (record { none = λ q. never q; held = λ q. refl });
-      notes = λ s f os i e h l. rw append-nil (record { none = i.none; held = i.held });
-      takes = λ s f os i h. rw append-nil (record { none = λ q. never q; held = λ q. i.held h.opened });
-      closes = λ s f os i h. rw append-nil (record { none = λ q. never q; held = λ q. i.held h.opened });
+      notes = λ s j x os i e h l. rw append-nil (record { none = i.none; held = i.held });
+      takes = λ s ws os i h. rw append-nil (record { none = λ q. never q; held = λ q. i.held h.opened });
+      closes = λ s os i h. rw append-nil (record { none = λ q. never q; held = λ q. i.held h.opened });
     }

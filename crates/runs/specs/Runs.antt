@@ -1,15 +1,12 @@
 -- What holds after every list of lines, for readers. Assumes nothing.
-use Rattle.std.specs.Prelude.{◌≡◌, ℕ, zero, suc, ◌*◌, ◌^◌, Bool, true, false, List, [], ◌∷◌, ◌++◌, length, take}
-use Rattle.multilinear.specs.declared.Side.{Side}
-use Rattle.multilinear.specs.declared.Weight.{Weight}
-use Rattle.field.specs.declared.Element.{Element}
+use Rattle.std.specs.Prelude.{◌≡◌, ℕ, zero, suc, ◌*◌, ◌^◌, Bool, true, false, List, [], ◌∷◌, ◌++◌, length, take, Option, Some, None}
 use Rattle.table.specs.Refusals.{leaves}
 use Rattle.plan.specs.Plan.{padded, fold_of}
 use Rattle.ledger.specs.declared.Session.{Session}
-use Rattle.frame.specs.declared.Kind.{Kind}
-use Rattle.frame.specs.declared.Kind.TheVariants as kind
+use Rattle.frame.specs.declared.Opening.{Opening}
 use Rattle.frame.specs.declared.Frame.{Frame}
-use Rattle.frame.specs.Frame.{frame_of, words_of}
+use Rattle.frame.specs.declared.Frame.TheVariants.{Open, Coordinate, Words, Close}
+use Rattle.frame.specs.Frame.{frame_of}
 use Rattle.runs.specs.declared.Phase.{Phase}
 use Rattle.runs.specs.declared.Phase.TheVariants as phase
 use Rattle.runs.specs.Reader.{started, used, most_places}
@@ -24,71 +21,59 @@ abbrev pub after : List (List ℕ) → State → State
 after [] s = s
 after (l ∷ ls) s = after ls (step l s)
 
--- what an `01` gives: side, weight, n, k, scale
-pub record Opening : Type 0 where
-  pub side : Side
-  pub weight : Weight
-  pub n : ℕ
-  pub k : ℕ
-  pub scale : Element
-
--- by the line's frame
-abbrev pub opening_of : Frame → Opening
-opening_of f = record { side = f.side; weight = f.weight; n = f.n; k = f.k; scale = f.element }
-
--- and what a session has of it
+-- what a session has of its `01`: side, weight, n, k, scale
 abbrev pub held_by : Session → Opening
 held_by s =
     record { side = s.plan.side; weight = s.plan.weight; n = s.plan.n; k = s.plan.k; scale = s.plan.scale }
 
--- what lines of a kind bring
-abbrev pub opening_by : Kind → Frame → List Opening
-opening_by kind.Open f = opening_of f ∷ []
-opening_by kind.Coordinate f = []
-opening_by kind.Words f = []
-opening_by kind.Close f = []
-opening_by kind.NoFrame f = []
+-- what lines bring, by their frames
+abbrev pub opening_by : Option Frame → List Opening
+opening_by (Some (Open o)) = o ∷ []
+opening_by (Some (Coordinate index coordinate)) = []
+opening_by (Some (Words words)) = []
+opening_by (Some Close) = []
+opening_by None = []
 
-abbrev pub words_by : Kind → Frame → List ℕ
-words_by kind.Words f = words_of f
-words_by kind.Open f = []
-words_by kind.Coordinate f = []
-words_by kind.Close f = []
-words_by kind.NoFrame f = []
+abbrev pub words_by : Option Frame → List ℕ
+words_by (Some (Words words)) = words
+words_by (Some (Open o)) = []
+words_by (Some (Coordinate index coordinate)) = []
+words_by (Some Close) = []
+words_by None = []
 
-abbrev pub coordinate_by : Kind → Frame → List ℕ
-coordinate_by kind.Coordinate f = f.element.c
-coordinate_by kind.Open f = []
-coordinate_by kind.Words f = []
-coordinate_by kind.Close f = []
-coordinate_by kind.NoFrame f = []
+abbrev pub coordinate_by : Option Frame → List ℕ
+coordinate_by (Some (Coordinate index coordinate)) = coordinate.c
+coordinate_by (Some (Open o)) = []
+coordinate_by (Some (Words words)) = []
+coordinate_by (Some Close) = []
+coordinate_by None = []
 
-abbrev pub index_by : Kind → Frame → List ℕ
-index_by kind.Coordinate f = f.index ∷ []
-index_by kind.Open f = []
-index_by kind.Words f = []
-index_by kind.Close f = []
-index_by kind.NoFrame f = []
+abbrev pub index_by : Option Frame → List ℕ
+index_by (Some (Coordinate index coordinate)) = index ∷ []
+index_by (Some (Open o)) = []
+index_by (Some (Words words)) = []
+index_by (Some Close) = []
+index_by None = []
 
 -- what the accepted `01` lines give, in order
 abbrev pub openings : List (List ℕ) → State → List Opening
 openings [] s = []
-openings (l ∷ ls) s = leaves (number_of s l) (opening_by (frame_of l).kind (frame_of l)) [] ++ openings ls (step l s)
+openings (l ∷ ls) s = leaves (number_of s l) (opening_by (frame_of l)) [] ++ openings ls (step l s)
 
 -- the words of the accepted `03` lines, joined in order
 abbrev pub joined : List (List ℕ) → State → List ℕ
 joined [] s = []
-joined (l ∷ ls) s = leaves (number_of s l) (words_by (frame_of l).kind (frame_of l)) [] ++ joined ls (step l s)
+joined (l ∷ ls) s = leaves (number_of s l) (words_by (frame_of l)) [] ++ joined ls (step l s)
 
 -- the coordinates of the accepted `02` lines, their words joined in order
 abbrev pub given : List (List ℕ) → State → List ℕ
 given [] s = []
-given (l ∷ ls) s = leaves (number_of s l) (coordinate_by (frame_of l).kind (frame_of l)) [] ++ given ls (step l s)
+given (l ∷ ls) s = leaves (number_of s l) (coordinate_by (frame_of l)) [] ++ given ls (step l s)
 
 -- and their indices
 abbrev pub indices : List (List ℕ) → State → List ℕ
 indices [] s = []
-indices (l ∷ ls) s = leaves (number_of s l) (index_by (frame_of l).kind (frame_of l)) [] ++ indices ls (step l s)
+indices (l ∷ ls) s = leaves (number_of s l) (index_by (frame_of l)) [] ++ indices ls (step l s)
 
 -- 0, 1, .. n - 1
 abbrev pub up_to : ℕ → List ℕ

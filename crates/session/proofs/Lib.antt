@@ -1,3 +1,2 @@
+pub mod Joining
 pub mod Scanning
-pub mod Outcomes
-pub mod Held

@@ -1,23 +1,16 @@
--- A loop that looks for a word that is not 0, at word i: what is left of the words decides. Assumes nothing.
-use mathlib.Core.Path.{◌≡◌}
-use mathlib.Core.Bool.{true, false}
-use Prim.Native.Nat.{ℕ, ◌+◌, ◌≤◌, ◌<◌}
-use native.Mathlib.Numerals.{add-one}
-use mathlib.Core.List.{List}
-use lib.ListN.{length, get_or, drop, drop_of_length-le}
-use lib.Seq.{drop-cons}
-use borrow.Author.Tests.{eq-eqb, ne_eqb}
+-- A word that is not 0, as a search finds it, and the words that are searched. Assumes nothing.
+use Rattle.std.proofs.Common.{◌≡◌, refl, ap, ℕ, ◌-◌, List, [], ◌∷◌, length, drop, arith, length-drop}
+use lib.Seq.{take_all}
+use borrow.Rule.Slice.PartMut.{mid_of}
+use Rattle.std.specs.Prelude.{not, nat_eq, ◌||◌}
+use Rattle.std.specs.List.{list_any}
 use Rattle.ledger.specs.Session.{nonzero}
 
-module _ (ws : List ℕ) (i : ℕ) where
-  pub found : i < length ws → (get_or ws i 0 ≡ 0 → ⊥) → nonzero (drop i ws) ≡ true
-  unfolding nonzero
-  found h q = rw (drop-cons ws i 0 h, ne_eqb (get_or ws i 0) 0 q)
+pub any_nonzero : (ws : List ℕ) → list_any (λ w. not (nat_eq w 0)) ws ≡ nonzero ws
+unfolding nonzero
+any_nonzero [] = refl
+any_nonzero (w ∷ ws) = ap (λ b. not (nat_eq w 0) || b) (any_nonzero ws)
 
-  pub passed : i < length ws → get_or ws i 0 ≡ 0 → nonzero (drop i ws) ≡ nonzero (drop (i + 1) ws)
-  unfolding nonzero
-  passed h q = rw (add-one, drop-cons ws i 0 h, eq-eqb (get_or ws i 0) 0 q)
-
-  pub ended : length ws ≤ i → nonzero (drop i ws) ≡ false
-  unfolding nonzero
-  ended h = rw (drop_of_length-le ws {i = i} h)
+-- the words from word a on, of the words of a plan's coordinates
+pub unused : (a : ℕ) (ws : List ℕ) → length ws ≡ 80 → nonzero (mid_of a (80 - a) ws) ≡ nonzero (drop a ws)
+unused a ws e = ap nonzero (take_all (80 - a) (drop a ws) (omega (arith, length-drop a ws)))

@@ -1,27 +1,20 @@
 // The fold session: a table arrives in pieces, and each is folded as it comes.
 #![tactic(auto)]
 
-ghost use Rattle.std.specs.Prelude.{◌≡◌, ◌&&◌, ltb, drop};
+ghost use Rattle.std.specs.Prelude.{◌≡◌, ◌≤◌, ◌&&◌, ltb};
 ghost use Rattle.table.specs.Refusals.{answer, outcome, verdict};
-ghost use Rattle.table.specs.Inner.{onward};
-ghost use Rattle.ledger.specs.Session.{args, no_session, nonzero, state, open_tests, open_step, feed_answer, feed_step, close_answer, close_step};
-ghost use Rattle.ledger.specs.Session.{record_tests, out_tests, read_answer};
+ghost use Rattle.ledger.specs.Session.{args, no_session, nonzero, state, open_tests, record_tests, out_tests, read_answer};
+ghost use Rattle.ledger.specs.Session.{open_step, feed_answer, feed_step, close_answer, close_step};
 ghost use Rattle.session.specs.Settled.{settled};
 ghost use Rattle.session.specs.Inner.{ready_tests};
 
 use field::Element;
 use ledger::Session;
 use multilinear::{Side, Weight};
-use table::{Evaluation, Refusal, Verdict};
+use table::Refusal;
 
-// An answer with the session beside it.
-#[derive(Clone, Copy)]
-pub struct Settled {
-    pub answer: Verdict,
-    pub session: Session,
-}
-
-// A session of a table of n variables at a point; out is zeroed. Refused, it gives a record that every call refuses with 11.
+// A session of a table of n variables at a point; out is zeroed. Refused, there is none: `no_session` stands for it.
+#[tactic(auto, using(table::proofs::Outcomes::outcomes), unfolding(ledger::specs::Session::open_answer, ledger::specs::Session::open_leaves))]
 pub fn open(
     n: usize,
     side: Side,
@@ -29,203 +22,56 @@ pub fn open(
     scale: Element,
     point: &[u32],
     out: &mut [u32],
-) -> Settled
-    ensures { settled result out.new
+) -> Result<Session, Refusal>
+    ensures { settled result no_session out.new
         ≡ open_step (args n side weight scale point.now) out.old }
 {
-    let tested = test_open(n, scale, point, out);
-    match tested {
-        Verdict::Refused(refusal) => Settled {
-            answer: Verdict::Refused(refusal),
-            session: no_session(),
-        },
-        Verdict::Accepted => {
-            table::clear(out);
-            Settled {
-                answer: Verdict::Accepted,
-                session: Session {
-                    plan: plan::new(n, point.len() / 4, side, weight, scale, point),
-                    taken: 0,
-                    closed: false,
-                },
-            }
-        }
-    }
+    test_open(n, scale, point, out)?;
+    table::clear(out);
+    Ok(Session {
+        plan: plan::new(n, point.len() / 4, side, weight, scale, point),
+        taken: 0,
+        closed: false,
+    })
 }
 
-// Adds scale weight word to each word's place, and counts the words.
-pub fn feed(s: Session, piece: &[u32], out: &mut [u32]) -> Settled
-    ensures { settled result out.new ≡ feed_step (state s out.old) piece.now }
+// Adds scale weight word to each word's place, and counts the words. Refused, the session is as it was.
+#[tactic(auto, using(table::proofs::Outcomes::outcomes), unfolding(ledger::specs::Session::feed_leaves))]
+pub fn feed(s: Session, piece: &[u32], out: &mut [u32]) -> Result<Session, Refusal>
+    ensures { settled result s out.new ≡ feed_step (state s out.old) piece.now }
 {
-    let tested = test_feed(s, piece, out);
-    match tested {
-        Verdict::Refused(refusal) => Settled {
-            answer: Verdict::Refused(refusal),
-            session: s,
-        },
-        Verdict::Accepted => {
-            piece::add(s.plan, s.taken, piece, out);
-            let mut fed = s;
-            fed.taken = s.taken + piece.len();
-            Settled {
-                answer: Verdict::Accepted,
-                session: fed,
-            }
-        }
-    }
+    test_feed(&s, piece, out)?;
+    piece::add(s.plan, s.taken, piece, out);
+    Ok(Session {
+        taken: s.taken + piece.len(),
+        ..s
+    })
 }
 
-// Marks the session closed.
-pub fn close(s: Session, out: &[u32]) -> Settled
-    ensures { settled result out.now ≡ close_step (state s out.now) }
+// Marks the session closed. Refused, it is as it was.
+#[tactic(auto, using(table::proofs::Outcomes::outcomes), unfolding(ledger::specs::Session::close_leaves))]
+pub fn close(s: Session, out: &[u32]) -> Result<Session, Refusal>
+    ensures { settled result s out.now ≡ close_step (state s out.now) }
 {
-    let tested = test_close(s, out);
-    match tested {
-        Verdict::Refused(refusal) => Settled {
-            answer: Verdict::Refused(refusal),
-            session: s,
-        },
-        Verdict::Accepted => {
-            let plan = s.plan;
-            Settled {
-                answer: Verdict::Accepted,
-                session: Session {
-                    plan,
-                    taken: s.taken,
-                    closed: true,
-                },
-            }
-        }
-    }
+    test_close(&s, out)?;
+    Ok(Session { closed: true, ..s })
 }
 
 // The sum of one place, of the words that have come: scale·weight·word over its rows, a word that is missing counting as 0. In an open
 // session and after its close; session and out stay as they are.
-pub fn read(s: Session, place: usize, out: &[u32]) -> Evaluation
+#[tactic(auto, using(table::proofs::Outcomes::outcomes), unfolding(ledger::specs::Session::read_answer))]
+pub fn read(s: Session, place: usize, out: &[u32]) -> Result<Element, Refusal>
     ensures { outcome result ≡ read_answer (state s out.now) place }
 {
-    let tested = test_read(s, place, out);
-    match tested {
-        Verdict::Refused(refusal) => Evaluation::Refused(refusal),
-        Verdict::Accepted => Evaluation::Value(table::read(out, place).value()),
-    }
+    test_read(&s, place, out)?;
+    Ok(table::read(out, place))
 }
 
-fn test_open(n: usize, scale: Element, point: &[u32], out: &[u32]) -> Verdict
-    ensures { answer result ≡ verdict (open_tests n scale point.now out.now) }
-{
-    let k = point.len() / 4;
-    let words = scale.c;
-    let bad_scale = field::unreduced(&words);
-    Verdict::Accepted
-        .refuse_if(table::splits(point), Refusal::Split)
-        .refuse_if(table::splits(out), Refusal::Split)
-        .refuse_if(table::MOST < n, Refusal::TooMany)
-        .refuse_if(table::too_many(point), Refusal::TooMany)
-        .refuse_if(n < k, Refusal::Lengths)
-        .refuse_if(
-            table::rows_differ(out, table::remaining(n, k)),
-            Refusal::Lengths,
-        )
-        .refuse_if(field::unreduced(point), Refusal::Unreduced)
-        .refuse_if(bad_scale, Refusal::Unreduced)
-}
-
-fn test_feed(s: Session, piece: &[u32], out: &[u32]) -> Verdict
-    ensures { answer result ≡ feed_answer (state s out.now) piece.now }
-{
-    let words = table::rows(table::min(s.plan.n, table::MOST));
-    test_ready(s, out)
-        .refuse_if(field::unreduced(piece), Refusal::Unreduced)
-        .refuse_if(
-            table::remaining(words, s.taken) < piece.len(),
-            Refusal::TooLong,
-        )
-}
-
-fn test_close(s: Session, out: &[u32]) -> Verdict
-    ensures { answer result ≡ close_answer (state s out.now) }
-{
-    let words = table::rows(table::min(s.plan.n, table::MOST));
-    test_ready(s, out).refuse_if(s.taken < words, Refusal::Missing)
-}
-
-// 14 where out has no such element: it was tested to have 2^(n-k).
-fn test_read(s: Session, place: usize, out: &[u32]) -> Verdict
-    ensures { answer result ≡ (read_answer (state s out.now) place).number }
-{
-    refuse_out(test_record(s), s, out).refuse_if(out.len() / 4 <= place, Refusal::NoPlace)
-}
-
-// The tests that feed and close share.
-fn test_ready(s: Session, out: &[u32]) -> Verdict
-    ensures { answer result ≡ verdict (ready_tests (state s out.now)) }
-{
-    let tested = test_record(s).refuse_if(s.closed, Refusal::Closed);
-    refuse_out(tested, s, out)
-}
-
-// 4, 5, where none was given yet, for the out beside a session.
-fn refuse_out(tested: Verdict, s: Session, out: &[u32]) -> Verdict
-    ensures { answer result ≡ onward (answer tested) (out_tests (state s out.now)) }
-{
-    tested
-        .refuse_if(table::splits(out), Refusal::Lengths)
-        .refuse_if(
-            table::rows_differ(out, table::remaining(s.plan.n, s.plan.k)),
-            Refusal::Lengths,
-        )
-        .refuse_if(field::unreduced(out), Refusal::Unreduced)
-}
-
-// 11. Sizes are held in their limits, so that they fit; a number beyond one is 11 before they count.
-fn test_record(s: Session) -> Verdict
-    ensures { answer result ≡ verdict (record_tests s) }
-{
-    let words = table::rows(table::min(s.plan.n, table::MOST));
-    let scale = s.plan.scale.c;
-    let coordinates = s.plan.coordinates;
-    let bad_scale = field::unreduced(&scale);
-    let bad_point = field::unreduced(&coordinates);
-    let used = 4 * table::min(s.plan.k, table::MOST);
-    let bad_rest = has_nonzero(&coordinates, used);
-    let short = is_short(s.closed, s.taken, words);
-    Verdict::Accepted
-        .refuse_if(table::MOST < s.plan.n, Refusal::Broken)
-        .refuse_if(s.plan.n < s.plan.k, Refusal::Broken)
-        .refuse_if(words < s.taken, Refusal::Broken)
-        .refuse_if(bad_scale, Refusal::Broken)
-        .refuse_if(bad_point, Refusal::Broken)
-        .refuse_if(bad_rest, Refusal::Broken)
-        .refuse_if(short, Refusal::Broken)
-}
-
-// Closed before all words are taken.
-fn is_short(closed: bool, taken: usize, words: usize) -> bool
-    ensures { result ≡ (closed && ltb taken words) }
-{
-    if closed { taken < words } else { false }
-}
-
-// A word from `from` on is not 0.
-fn has_nonzero(ws: &[u32], from: usize) -> bool
-    ensures { result ≡ nonzero (drop from ws.now) }
-{
-    let mut i = from;
-    while i < ws.len() {
-        if ws[i] != 0 {
-            return true;
-        }
-        i += 1;
-    }
-    false
-}
-
-// Of more variables than a table may have.
-fn no_session() -> Session
+// Of more variables than a table may have, so that every call refuses it with 11: what stands for a session whose open was refused.
+#[tactic(auto, unfolding(ledger::specs::Session::no_session))]
+pub fn no_session() -> Session
     ensures { result ≡ no_session }
 {
-    let none = [0u32; 0];
     Session {
         plan: plan::new(
             table::MOST + 1,
@@ -233,9 +79,102 @@ fn no_session() -> Session
             Side::Prefix,
             Weight::Plain,
             Element { c: [0, 0, 0, 0] },
-            &none,
+            &[],
         ),
         taken: 0,
         closed: false,
     }
+}
+
+#[tactic(auto, using(table::proofs::Verdicts::tests))]
+fn test_open(n: usize, scale: Element, point: &[u32], out: &[u32]) -> Result<(), Refusal>
+    ensures { answer result ≡ verdict (open_tests n scale point.now out.now) }
+{
+    let k = point.len() / 4;
+    table::refuse_if(table::splits(point), Refusal::Split)?;
+    table::refuse_if(table::splits(out), Refusal::Split)?;
+    table::refuse_if(table::MOST < n, Refusal::TooMany)?;
+    table::refuse_if(table::too_many(point), Refusal::TooMany)?;
+    table::refuse_if(n < k, Refusal::Lengths)?;
+    table::refuse_if(table::rows_differ(out, n - k), Refusal::Lengths)?;
+    table::refuse_if(field::unreduced(point), Refusal::Unreduced)?;
+    table::refuse_if(field::unreduced(&scale.c), Refusal::Unreduced)
+}
+
+fn test_feed(s: &Session, piece: &[u32], out: &[u32]) -> Result<(), Refusal>
+    ensures { answer result ≡ feed_answer (state s.now out.now) piece.now }
+{
+    test_ready(s, out)?;
+    let left = table::rows(s.plan.n) - s.taken;
+    table::refuse_if(field::unreduced(piece), Refusal::Unreduced)?;
+    table::refuse_if(left < piece.len(), Refusal::TooLong)
+}
+
+fn test_close(s: &Session, out: &[u32]) -> Result<(), Refusal>
+    ensures { answer result ≡ close_answer (state s.now out.now) }
+{
+    test_ready(s, out)?;
+    table::refuse_if(s.taken < table::rows(s.plan.n), Refusal::Missing)
+}
+
+// 14 where out has no such element: it was tested to have 2^(n-k).
+fn test_read(s: &Session, place: usize, out: &[u32]) -> Result<(), Refusal>
+    ensures { answer result ≡ (read_answer (state s.now out.now) place).number }
+{
+    test_record(s)?;
+    test_out(s, out)?;
+    table::refuse_if(out.len() / 4 <= place, Refusal::NoPlace)
+}
+
+// The tests that feed and close share.
+fn test_ready(s: &Session, out: &[u32]) -> Result<(), Refusal>
+    ensures { answer result ≡ verdict (ready_tests (state s.now out.now)) }
+{
+    test_record(s)?;
+    table::refuse_if(s.closed, Refusal::Closed)?;
+    test_out(s, out)
+}
+
+// 4, 5 for the out beside a session.
+#[tactic(auto, using(table::proofs::Verdicts::tests))]
+fn test_out(s: &Session, out: &[u32]) -> Result<(), Refusal>
+    requires { s.now.plan.k ≤ s.now.plan.n }
+    ensures { answer result ≡ verdict (out_tests (state s.now out.now)) }
+{
+    table::refuse_if(table::splits(out), Refusal::Lengths)?;
+    table::refuse_if(
+        table::rows_differ(out, s.plan.n - s.plan.k),
+        Refusal::Lengths,
+    )?;
+    table::refuse_if(field::unreduced(out), Refusal::Unreduced)
+}
+
+// 11: the record is none that a session has.
+#[tactic(auto, using(table::proofs::Verdicts::tests, crate::proofs::Scanning::unused))]
+fn test_record(s: &Session) -> Result<(), Refusal>
+    ensures { answer result ≡ verdict (record_tests s.now) }
+{
+    table::refuse_if(table::MOST < s.plan.n, Refusal::Broken)?;
+    table::refuse_if(s.plan.n < s.plan.k, Refusal::Broken)?;
+    let words = table::rows(s.plan.n);
+    let unused = &s.plan.coordinates[4 * s.plan.k..];
+    table::refuse_if(words < s.taken, Refusal::Broken)?;
+    table::refuse_if(field::unreduced(&s.plan.scale.c), Refusal::Broken)?;
+    table::refuse_if(field::unreduced(&s.plan.coordinates), Refusal::Broken)?;
+    table::refuse_if(has_nonzero(unused), Refusal::Broken)?;
+    table::refuse_if(is_short(s.closed, s.taken, words), Refusal::Broken)
+}
+
+// Closed before all words are taken.
+fn is_short(closed: bool, taken: usize, words: usize) -> bool
+    ensures { result ≡ (closed && ltb taken words) }
+{
+    closed && taken < words
+}
+
+// A word is not 0.
+fn has_nonzero(ws: &[u32]) -> bool
+    ensures { result ≡ nonzero ws.now }
+{
+    ws.iter().any(|w| *w != 0)
 }

@@ -13,9 +13,10 @@ use Rattle.multilinear.specs.declared.Weight.{Weight}
 use Rattle.field.specs.Field.{p, p_pos}
 use Rattle.field.specs.declared.Element.{Element}
 use Rattle.table.specs.Table.{entries}
-use Rattle.table.specs.Refusals.{variables, most, splits, too_many, rows_differ}
+use Rattle.table.specs.Refusals.{variables, most, splits, too_many}
 use Rattle.table.proofs.Powers.{power_of}
 use Rattle.table.proofs.Tests.{whole, same}
+use Rattle.table.proofs.Says.{room}
 use Rattle.table.proofs.Verdicts.{clear}
 use Rattle.point.proofs.Coordinates.{coordinates}
 use Rattle.plan.specs.Sound.{Fills}
@@ -30,9 +31,6 @@ padded point n h = unreduced_append p point (replicate n 0) h (unreduced_zeros p
 -- the coordinates have room in a plan
 fits_plan : (point : List ℕ) → splits point ≡ false → too_many point ≡ false → length point ≤ 4 * most
 fits_plan point a b = omega (arith, whole point a, ltb-false most (entries point) b)
-
-room : (out : List ℕ) (k : ℕ) → splits out ≡ false → rows_differ out k ≡ false → length out ≡ 4 * 2 ^ k
-room out k a b = omega (arith, whole out a, same (entries out) (2 ^ k) b)
 
 module _ (table point : List ℕ) (scale : Element) (work out : List ℕ) where
   pub record Tested : Type 0 where

@@ -1,18 +1,17 @@
 -- What accepted tests say of the table, the point, the scale and the work buffer: `search` reads it off the tests that do not hold.
 -- Assumes nothing.
-use mathlib.Core.Path.{◌≡◌, ap, ◌∙◌}
-use mathlib.Core.Bool.{false, not}
-use Prim.Native.Nat.{ℕ, ◌+◌, ◌*◌, ◌^◌, ◌<◌}
+use mathlib.Core.Path.{◌≡◌}
+use mathlib.Core.Bool.{false}
+use Prim.Native.Nat.{ℕ, ◌+◌, ◌^◌, ◌<◌}
 use native.Mathlib.Omega.{arith}
 use mathlib.Core.List.{List}
-use lib.Dec.{eqb}
 use lib.ListN.{length}
 use Rattle.field.specs.Field.{Reduced}
 use Rattle.field.specs.declared.Element.{Element}
 use Rattle.table.specs.Table.{entries}
-use Rattle.table.specs.Refusals.{verdict, splits, not_power, variables}
+use Rattle.table.specs.Refusals.{verdict, splits}
 use Rattle.table.proofs.Tests.{whole, same}
-use Rattle.table.proofs.Powers.{power_of}
+use Rattle.table.proofs.Says.{base_rows, ext_rows}
 use Rattle.table.proofs.Verdicts.{clear}
 use Rattle.point.specs.Coordinates.{Coordinates}
 use Rattle.point.proofs.Coordinates.{coordinates}
@@ -24,14 +23,6 @@ use Rattle.split_tests.specs.SplitTests.{base_answer, ext_answer, last_tests, ac
 -- 1 and 4 do not hold: the work buffer has just both tables' words
 pub sized : (work : List ℕ) (k : ℕ) → splits work ≡ false → work_differs work k ≡ false → BothTables k work
 sized work k a b = record { size = omega (arith, whole work a, same (entries work) (2 ^ first k + 2 ^ others k) b) }
-
--- 2 and 4 do not hold: a table of base words, and one of elements, has an entry for each vertex of k coordinates
-base_rows : (count k : ℕ) → count < 2 ^ 64 → not_power count ≡ false → not (eqb (variables count) k) ≡ false → count ≡ 2 ^ k
-base_rows count k b a c = power_of count b a ∙ ap (λ n. 2 ^ n) (same (variables count) k c)
-
-ext_rows : (ws : List ℕ) (k : ℕ) → length ws < 2 ^ 64 → splits ws ≡ false → not_power (entries ws) ≡ false
-    → not (eqb (variables (entries ws)) k) ≡ false → length ws ≡ 4 * 2 ^ k
-ext_rows ws k b s a c = omega (arith, whole ws s, base_rows (entries ws) k (omega (arith, whole ws s)) a c)
 
 -- what the filling of the work buffer asks
 abbrev pub Fillable : List ℕ → Element → List ℕ → Type 0

@@ -1,6 +1,6 @@
 -- Split folds, values with a scale, and the weights (document 01, "Split folds"). What the calls are refused for is in
 -- crates/split_tests/specs/SplitTests.antt. Assumes nothing.
-use Rattle.std.specs.Prelude.{ℕ, ◌^◌, List, length, get_or}
+use Rattle.std.specs.Prelude.{◌≡◌, ℕ, ◌^◌, List, Result, length, get_or}
 use Rattle.multilinear.specs.declared.Side.{Side}
 use Rattle.multilinear.specs.declared.Weight.{Weight}
 use Rattle.multilinear.specs.Equality.{eq_at}
@@ -9,7 +9,8 @@ use Rattle.multilinear.specs.Folds.{scaled_value_at, scaled_next_value_at}
 use Rattle.field.specs.Field.{Ext, field, base, from_words}
 use Rattle.field.specs.declared.Element.{Element}
 use Rattle.table.specs.Table.{table_words, entries, element_at, point_of}
-use Rattle.table.specs.Refusals.{Outcome, verdict, leaves, evaluated, variables}
+use Rattle.table.specs.Refusals.{answer, Outcome, verdict, leaves, evaluated, variables}
+use Rattle.table.specs.declared.Refusal.{Refusal}
 use Rattle.plan.specs.declared.Plan.{Plan}
 use Rattle.plan.specs.Plan.{plan_of, fold_of}
 use Rattle.work.specs.Work.{work_words}
@@ -38,6 +39,13 @@ folded side weight table point scale = fold_of (fold_plan side weight table poin
 unfoldable pub fold_out : Side → Weight → List ℕ → List ℕ → Element → List ℕ → List ℕ → List ℕ
 fold_out side weight table point scale work out =
     leaves (fold_answer table point scale work out) (folded side weight table point scale) out
+
+-- what a call of a fold answers, and leaves in work and in out
+pub record Compressed (side : Side) (weight : Weight) (table point : List ℕ) (scale : Element) (work out : List ℕ)
+    (result : Result Unit Refusal) (work_new out_new : List ℕ) : Type 0 where
+  pub result_value : answer result ≡ fold_answer table point scale work out
+  pub work_after : work_new ≡ fold_work table point scale work out
+  pub out_after : out_new ≡ fold_out side weight table point scale work out
 
 -- evaluations, of a table of base words
 unfoldable pub base_work : List ℕ → List ℕ → Element → List ℕ → List ℕ

@@ -4,16 +4,13 @@
 //     suffix    out[i] = scale sum_y weight[y] table[i 2^k + y]        a place has 2^k words
 //
 // A plain weight is eq[y], a shifted one eq[y - 1], and 0 at the first row.
-ghost use Rattle.std.specs.Prelude.{◌≡◌};
 ghost use Rattle.multilinear.specs.declared.Side.TheVariants.{Prefix, Suffix};
 ghost use Rattle.multilinear.specs.declared.Weight.TheVariants.{Plain, Shifted};
-ghost use Rattle.table.specs.Refusals.{answer};
-ghost use Rattle.split_tests.specs.SplitTests.{fold_answer};
-ghost use Rattle.split_eq.specs.Split.{fold_work, fold_out};
+ghost use Rattle.split_eq.specs.Split.{Compressed};
 
 use field::Element;
 use multilinear::{Side, Weight};
-use table::Verdict;
+use table::Refusal;
 
 // out[i] = scale sum_y eq[y] table[y inner + i].
 pub fn compress_prefix(
@@ -22,13 +19,9 @@ pub fn compress_prefix(
     scale: Element,
     work: &mut [u32],
     out: &mut [u32],
-) -> Verdict
-    ensures result_value { answer result
-        ≡ fold_answer table.now point.now scale work.old out.old }
-    ensures work_after { work.new
-        ≡ fold_work table.now point.now scale work.old out.old }
-    ensures out_after { out.new
-        ≡ fold_out Prefix Plain table.now point.now scale work.old out.old }
+) -> Result<(), Refusal>
+    ensures { Compressed Prefix Plain table.now point.now scale work.old out.old
+        result work.new out.new }
 {
     let kind = Kind {
         side: Side::Prefix,
@@ -44,13 +37,9 @@ pub fn compress_suffix(
     scale: Element,
     work: &mut [u32],
     out: &mut [u32],
-) -> Verdict
-    ensures result_value { answer result
-        ≡ fold_answer table.now point.now scale work.old out.old }
-    ensures work_after { work.new
-        ≡ fold_work table.now point.now scale work.old out.old }
-    ensures out_after { out.new
-        ≡ fold_out Suffix Plain table.now point.now scale work.old out.old }
+) -> Result<(), Refusal>
+    ensures { Compressed Suffix Plain table.now point.now scale work.old out.old
+        result work.new out.new }
 {
     let kind = Kind {
         side: Side::Suffix,
@@ -66,13 +55,9 @@ pub fn compress_prefix_shifted(
     scale: Element,
     work: &mut [u32],
     out: &mut [u32],
-) -> Verdict
-    ensures result_value { answer result
-        ≡ fold_answer table.now point.now scale work.old out.old }
-    ensures work_after { work.new
-        ≡ fold_work table.now point.now scale work.old out.old }
-    ensures out_after { out.new
-        ≡ fold_out Prefix Shifted table.now point.now scale work.old out.old }
+) -> Result<(), Refusal>
+    ensures { Compressed Prefix Shifted table.now point.now scale work.old out.old
+        result work.new out.new }
 {
     let kind = Kind {
         side: Side::Prefix,
@@ -88,13 +73,9 @@ pub fn compress_suffix_shifted(
     scale: Element,
     work: &mut [u32],
     out: &mut [u32],
-) -> Verdict
-    ensures result_value { answer result
-        ≡ fold_answer table.now point.now scale work.old out.old }
-    ensures work_after { work.new
-        ≡ fold_work table.now point.now scale work.old out.old }
-    ensures out_after { out.new
-        ≡ fold_out Suffix Shifted table.now point.now scale work.old out.old }
+) -> Result<(), Refusal>
+    ensures { Compressed Suffix Shifted table.now point.now scale work.old out.old
+        result work.new out.new }
 {
     let kind = Kind {
         side: Side::Suffix,
@@ -111,6 +92,7 @@ struct Kind {
 }
 
 // work is filled with both tables, and out by the plan of the fold.
+#[tactic(auto, using(table::proofs::Outcomes::outcomes), unfolding(crate::specs::Split::fold_work, crate::specs::Split::fold_out))]
 fn compress(
     kind: Kind,
     table: &[u32],
@@ -118,26 +100,18 @@ fn compress(
     scale: Element,
     work: &mut [u32],
     out: &mut [u32],
-) -> Verdict
-    ensures result_value { answer result
-        ≡ fold_answer table.now point.now scale work.old out.old }
-    ensures work_after { work.new
-        ≡ fold_work table.now point.now scale work.old out.old }
-    ensures out_after { out.new
-        ≡ fold_out kind.side kind.weight table.now point.now scale
-        work.old out.old }
+) -> Result<(), Refusal>
+    ensures { Compressed kind.side kind.weight table.now point.now scale work.old out.old
+        result work.new out.new }
 {
-    let side = kind.side;
-    let weight = kind.weight;
-    let tested = split_tests::of_fold(table, point, scale, work, out);
-    match tested {
-        Verdict::Refused(refusal) => Verdict::Refused(refusal),
-        Verdict::Accepted => {
-            let k = point.len() / 4;
-            let n = table::variables(table.len());
-            work::fill(work, point, k, scale);
-            piece::fold(plan::new(n, k, side, weight, scale, point), table, out);
-            Verdict::Accepted
-        }
-    }
+    split_tests::of_fold(table, point, scale, work, out)?;
+    let k = point.len() / 4;
+    let n = table::variables(table.len());
+    work::fill(work, point, k, scale);
+    piece::fold(
+        plan::new(n, k, kind.side, kind.weight, scale, point),
+        table,
+        out,
+    );
+    Ok(())
 }

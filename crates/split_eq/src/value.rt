@@ -16,54 +16,57 @@ ghost use Rattle.split_eq.specs.Split.{scaled_base_answer, scaled_ext_answer, sc
 ghost use Rattle.split_eq.specs.Inner.{Weighed};
 
 use field::Element;
-use table::{Evaluation, Verdict};
+use table::Refusal;
 
 // scale sum_y eq[y] table[y], of base words.
-pub fn eval_base(table: &[u32], point: &[u32], scale: Element, work: &mut [u32]) -> Evaluation
+#[tactic(auto, using(table::proofs::Outcomes::outcomes), unfolding(crate::specs::Split::scaled_base_answer, crate::specs::Split::base_work))]
+pub fn eval_base(
+    table: &[u32],
+    point: &[u32],
+    scale: Element,
+    work: &mut [u32],
+) -> Result<Element, Refusal>
     ensures result_value { outcome result ≡ scaled_base_answer table.now point.now scale work.old }
     ensures work_after { work.new ≡ base_work table.now point.now scale work.old }
 {
-    let tested = split_tests::of_base(table, point, scale, work);
-    match tested {
-        Verdict::Refused(refusal) => Evaluation::Refused(refusal),
-        Verdict::Accepted => {
-            let n = point.len() / 4;
-            work::fill(work, point, n, scale);
-            Evaluation::Value(scaled_value(table, point, n, scale).value())
-        }
-    }
+    split_tests::of_base(table, point, scale, work)?;
+    let n = point.len() / 4;
+    work::fill(work, point, n, scale);
+    Ok(scaled_value(table, point, n, scale))
 }
 
 // scale sum_y eq[y] table[y], of elements.
-pub fn eval_ext(table: &[u32], point: &[u32], scale: Element, work: &mut [u32]) -> Evaluation
+#[tactic(auto, using(table::proofs::Outcomes::outcomes), unfolding(crate::specs::Split::scaled_ext_answer, crate::specs::Split::ext_work))]
+pub fn eval_ext(
+    table: &[u32],
+    point: &[u32],
+    scale: Element,
+    work: &mut [u32],
+) -> Result<Element, Refusal>
     ensures result_value { outcome result ≡ scaled_ext_answer table.now point.now scale work.old }
     ensures work_after { work.new ≡ ext_work table.now point.now scale work.old }
 {
-    let tested = split_tests::of_ext(table, point, scale, work);
-    match tested {
-        Verdict::Refused(refusal) => Evaluation::Refused(refusal),
-        Verdict::Accepted => {
-            let n = point.len() / 4;
-            work::fill(work, point, n, scale);
-            Evaluation::Value(scaled_value_ext(table, point, n, scale).value())
-        }
-    }
+    split_tests::of_ext(table, point, scale, work)?;
+    let n = point.len() / 4;
+    work::fill(work, point, n, scale);
+    Ok(scaled_value_ext(table, point, n, scale))
 }
 
 // scale sum_y next[y] table[y], of base words.
-pub fn eval_next_base(table: &[u32], point: &[u32], scale: Element, work: &mut [u32]) -> Evaluation
+#[tactic(auto, using(table::proofs::Outcomes::outcomes), unfolding(crate::specs::Split::scaled_next_base_answer, crate::specs::Split::base_work))]
+pub fn eval_next_base(
+    table: &[u32],
+    point: &[u32],
+    scale: Element,
+    work: &mut [u32],
+) -> Result<Element, Refusal>
     ensures result_value { outcome result ≡ scaled_next_base_answer table.now point.now scale work.old }
     ensures work_after { work.new ≡ base_work table.now point.now scale work.old }
 {
-    let tested = split_tests::of_base(table, point, scale, work);
-    match tested {
-        Verdict::Refused(refusal) => Evaluation::Refused(refusal),
-        Verdict::Accepted => {
-            let n = point.len() / 4;
-            work::fill(work, point, n, scale);
-            Evaluation::Value(scaled_next_value(table, point, n, scale, work).value())
-        }
-    }
+    split_tests::of_base(table, point, scale, work)?;
+    let n = point.len() / 4;
+    work::fill(work, point, n, scale);
+    Ok(scaled_next_value(table, point, n, scale, work))
 }
 
 fn scaled_value(table: &[u32], point: &[u32], n: usize, scale: Element) -> Element

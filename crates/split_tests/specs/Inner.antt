@@ -3,11 +3,7 @@ use Rattle.std.specs.Prelude.{ℕ, List, [], ◌∷◌}
 use Rattle.algebra.specs.Words.{unreduced}
 use Rattle.field.specs.Field.{p}
 use Rattle.field.specs.declared.Element.{Element}
-use Rattle.table.specs.Refusals.{Test, ◌gives◌, splits}
-
--- 1, of two slices of elements
-abbrev pub split_tests : List ℕ → List ℕ → List Test
-split_tests first second = splits first gives 1 ∷ splits second gives 1 ∷ []
+use Rattle.table.specs.Refusals.{Test, ◌gives◌}
 
 -- 5, of a table, a point and a scale
 abbrev pub word_tests : List ℕ → List ℕ → Element → List Test

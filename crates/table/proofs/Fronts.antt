@@ -1,15 +1,12 @@
--- The verdict of a list of tests, by the verdict on its front. Assumes nothing.
+-- The verdict of a list of tests, by the answer on its front. Assumes nothing.
 use mathlib.Core.Path.{◌≡◌, refl, sym, ap, ◌∙◌}
 use mathlib.Core.Bool.{Bool, true, false, cond}
 use Prim.Native.Nat.{ℕ, zero, suc}
 use mathlib.Core.List.{List, [], ◌∷◌, ◌++◌}
-use Rattle.table.specs.Refusals.{number, answer, Test, ◌gives◌, verdict, leaves}
+use Rattle.table.specs.Refusals.{number, Test, ◌gives◌, verdict, leaves}
 use Rattle.table.specs.declared.Refusal.{Refusal}
-use Rattle.table.specs.declared.Verdict.{Verdict}
-use Rattle.table.specs.declared.Verdict.TheVariants.{Refused}
-use Rattle.table.proofs.Answers.{answer_as}
+use Rattle.table.proofs.Answers.{kept}
 use Rattle.table.proofs.Verdicts.{Numbered}
-use Rattle.table.proofs.Outcomes.{left_as}
 
 -- tests us behind the tests ts
 pub front : (ts us : List Test) → Numbered ts → verdict (ts ++ us) ≡ leaves (verdict ts) (verdict us) (verdict ts)
@@ -25,10 +22,10 @@ front (t ∷ ts) us h = go t.holds t.number h (front ts us)
     go false (suc n) h ih = ih h
 
 -- the front refuses
-pub front_refused : (ts us : List Test) → Numbered ts → {r : Refusal} {t : Verdict} → t ≡ Refused r → answer t ≡ verdict ts
-    → number r ≡ verdict (ts ++ us)
-front_refused ts us n e h = left_as (verdict us) (verdict ts) e h (answer_as e h) ∙ sym (front ts us n)
+pub front_refused : (ts us : List Test) → Numbered ts → (r : Refusal) → number r ≡ verdict ts → number r ≡ verdict (ts ++ us)
+front_refused ts us n r h =
+    sym (kept (verdict us) (number r) r) ∙ ap (λ m. leaves m (verdict us) m) h ∙ sym (front ts us n)
 
 -- the front accepts: the others decide
-pub front_accepted : (ts us : List Test) → Numbered ts → 0 ≡ verdict ts → verdict us ≡ verdict (ts ++ us)
-front_accepted ts us n e = ap (λ m. leaves m (verdict us) m) e ∙ sym (front ts us n)
+pub front_passed : (ts us : List Test) → Numbered ts → 0 ≡ verdict ts → {n : ℕ} → n ≡ verdict us → n ≡ verdict (ts ++ us)
+front_passed ts us n h e = e ∙ ap (λ m. leaves m (verdict us) m) h ∙ sym (front ts us n)

@@ -1,15 +1,10 @@
--- What an accepted list of tests says of the operands, and how a call goes by its tests. The tests ts gave the verdict t; the call has
--- `told : t ≡ Accepted`, or `t ≡ Refused r`, by the case that it stands in, and `tested : answer t ≡ verdict ts` from the test function.
+-- What an accepted list of tests says of the operands. The call behind the tests ts has `tested : 0 ≡ verdict ts` from the test function's
+-- answer, as `c.in_ok-test.ensures`.
 --
---   what the code behind the tests asks for   let h = accepted _ tt told tested in search says
---   the contract of a call that goes on       rw (← answer_as told tested) (refl, left)
---   the contract of a call that is refused    rw (← answer_as told tested, kept) (refl, refl)
+--   what the code behind the tests asks for   let h = accepted _ tt tested in search says
 --
 -- `search` reads the facts `test ≡ false` off h, and makes whole records of them; a crate adds the laws of its own operands, as
--- `search (says, coordinates)`. `(refl, left)` is the answer, and an entry for each thing that the call leaves: `left` shows what it
--- is; of a refused call, `kept` stands once for each thing that is left. An unfoldable name of the verdict, or of what is left, is
--- opened by `unfolding`. A test function's own proof is `gone_through _ tt (cc)` for up to five tests, and for more
--- `gone_through _ tt (rw (by_test _ _ .., ..))`. Assumes nothing.
+-- `search (says, coordinates)`. Assumes nothing.
 use mathlib.Core.Path.{◌≡◌, ap, ◌∙◌}
 use mathlib.Core.Bool.{false, not}
 use Prim.Native.Nat.{ℕ, ◌*◌, ◌^◌, ◌≤◌, ◌<◌}
@@ -19,17 +14,14 @@ use lib.Dec.{eqb}
 use lib.ListN.{length}
 use borrow.Author.Tests.{ltb-false, leb-false}
 use Rattle.table.specs.Table.{entries}
-use Rattle.table.specs.Refusals.{Test, answer, verdict, splits, rows_differ, not_power, variables}
-use Rattle.table.specs.declared.Verdict.{Verdict}
-use Rattle.table.specs.declared.Verdict.TheVariants.{Accepted}
-use Rattle.table.proofs.Answers.{answer_as}
+use Rattle.table.specs.Refusals.{Test, verdict, splits, rows_differ, not_power, variables}
 use Rattle.table.proofs.Powers.{power_of}
 use Rattle.table.proofs.Tests.{whole, same}
 use Rattle.table.proofs.Verdicts.{Numbered, Clear, clear}
 
 -- no test of an accepted list holds
-pub accepted : (ts : List Test) → Numbered ts → {t : Verdict} → t ≡ Accepted → answer t ≡ verdict ts → Clear ts
-accepted ts n e h = clear ts n (answer_as e h)
+pub accepted : (ts : List Test) → Numbered ts → 0 ≡ verdict ts → Clear ts
+accepted ts n h = clear ts n h
 
 -- 1 and 4 do not hold: out has a row for each vertex of k coordinates
 pub room : (out : List ℕ) (k : ℕ) → splits out ≡ false → rows_differ out k ≡ false → length out ≡ 4 * 2 ^ k

@@ -1,15 +1,12 @@
 -- A list of tests gone through one by one gives its verdict, and what an accepted list says. Assumes nothing.
-use mathlib.Core.Path.{◌≡◌, refl, ◌∙◌}
+use mathlib.Core.Path.{◌≡◌, refl, ap, ◌∙◌}
 use mathlib.Core.Bool.{Bool, true, false, cond}
 use Prim.Native.Nat.{ℕ, zero, suc}
 use native.Mathlib.Omega.{arith}
 use mathlib.Core.List.{List, [], ◌∷◌, ◌++◌}
 use Rattle.table.specs.Refusals.{Test, ◌gives◌, number, answer, verdict}
 use Rattle.table.specs.declared.Refusal.{Refusal}
-use Rattle.table.specs.declared.Verdict.{Verdict}
-use Rattle.table.specs.declared.Verdict.TheVariants.{Refused}
-use Rattle.table.specs.Inner.{refuse_if, onward}
-use Rattle.table.proofs.Answers.{number_some}
+use Rattle.std.specs.Prelude.{Result, Ok, Err, IsErr, IsErrAnd, MatchResult}
 
 -- A, where n is not 0
 abbrev Unless : ℕ → Type 0 → Type 0
@@ -21,49 +18,32 @@ abbrev pub Numbered : List Test → Type 0
 Numbered [] = Unit
 Numbered (t ∷ ts) = Unless t.number (Numbered ts)
 
-onward_given : (n : ℕ) (ts : List Test) → onward (suc n) ts ≡ suc n
-unfolding refuse_if
-onward_given n [] = refl
-onward_given n (t ∷ ts) = onward_given n ts
-
-onward_verdict : (ts : List Test) → Numbered ts → onward 0 ts ≡ verdict ts
-unfolding verdict refuse_if
-onward_verdict [] h = refl
-onward_verdict (t ∷ ts) h = go t.holds t.number h (onward_verdict ts)
-  where
-    go : (b : Bool) (n : ℕ) → Unless n (Numbered ts) → (Numbered ts → onward 0 ts ≡ verdict ts)
-        → onward (cond b n 0) ts ≡ cond b n (verdict ts)
-    go b zero h ih = absurd h
-    go true (suc n) h ih = onward_given n ts
-    go false (suc n) h ih = ih h
-
--- tests us, gone through after the verdict on the tests ts
-pub and_then : (ts us : List Test) → Numbered ts → Numbered us → onward (verdict ts) us ≡ verdict (ts ++ us)
+-- the tests of a list, one by one: one that holds is the verdict, and one that doesn't leaves it to the others
+pub holding : (b : Bool) (n : ℕ) (ts : List Test) → b ≡ true → verdict (b gives n ∷ ts) ≡ n
 unfolding verdict
-and_then [] us h k = onward_verdict us k
-and_then (t ∷ ts) us h k = go t.holds t.number h (λ i. and_then ts us i k)
-  where
-    go : (b : Bool) (n : ℕ) → Unless n (Numbered ts) → (Numbered ts → onward (verdict ts) us ≡ verdict (ts ++ us))
-        → onward (cond b n (verdict ts)) us ≡ cond b n (verdict (ts ++ us))
-    go b zero h ih = absurd h
-    go true (suc n) h ih = onward_given n us
-    go false (suc n) h ih = ih h
+holding b n ts e = rw e refl
 
-pub gone_through : (ts : List Test) → Numbered ts → {n : ℕ} → n ≡ onward 0 ts → n ≡ verdict ts
-gone_through ts h e = e ∙ onward_verdict ts h
+pub passing : (b : Bool) (n : ℕ) (ts : List Test) → b ≡ false → verdict (b gives n ∷ ts) ≡ verdict ts
+unfolding verdict
+passing b n ts e = rw e refl
 
--- one test more, by what the test is: for `rw`, where a list is too long for `cc`
-pub by_test : {n : ℕ} (m k : ℕ) {b t : Bool} → n ≡ refuse_if m b k → b ≡ t → n ≡ refuse_if m t k
-by_test m k e q = cc
+pub passed : verdict [] ≡ 0
+unfolding verdict
+passed = refl
 
--- a refusal that was given stays
-pub stays : {r : Refusal} {v : Verdict} → v ≡ Refused r → (test : Bool) (n : ℕ) → number r ≡ refuse_if (answer v) test n
-unfolding refuse_if
-stays {r} e test n = rw e (go (number r) (number_some r))
-  where
-    go : (m : ℕ) → (0 ≡ m → ⊥) → m ≡ refuse_if m test n
-    go zero h = absurd (h refl)
-    go (suc m) h = refl
+-- the last test's answer is the list's
+pub passed_on : (b : Bool) (f : Refusal) (a : Result Unit Refusal) → MatchResult a (λ _. b ≡ false) (λ e. (b ≡ true) × (e ≡ f))
+    → answer a ≡ verdict (b gives number f ∷ [])
+unfolding verdict
+passed_on b f (Ok _) h = rw h refl
+passed_on b f (Err e) h = rw (h.0, h.1) refl
+
+-- a refusal that `?` gives on
+pub given_on : {A : Type 0} (a : Result A Refusal) (r : Refusal) → IsErr a × IsErrAnd a (λ e. e ≡ r) → {n : ℕ} → number r ≡ n → answer a ≡ n
+given_on (Ok _) r h e = absurd (cc)
+given_on (Err s) r h e = ap number h.1 ∙ e
+
+pub ruleset tests = (holding, passing, passed, passed_on)
 
 -- no test holds
 abbrev pub Clear : List Test → Type 0

@@ -1,15 +1,11 @@
 -- Answers in numbers, and refused calls (document 01, "Refused calls, by operation"). Assumes nothing.
-use Rattle.std.specs.Prelude.{ℕ, zero, suc, ◌^◌, ◌%◌, Bool, not, cond, List, [], ◌∷◌, eqb, ltb, length}
+use Rattle.std.specs.Prelude.{ℕ, zero, suc, ◌^◌, ◌%◌, Bool, not, cond, List, [], ◌∷◌, eqb, ltb, length, Result, Ok, Err}
 use Rattle.std.specs.Int.Count.{ones, count_trailing_zeros}
 use Rattle.algebra.specs.Words.{words_of}
 use Rattle.field.specs.Field.{Ext}
-use Rattle.field.specs.declared.Value.{Value}
+use Rattle.field.specs.declared.Element.{Element}
 use Rattle.table.specs.declared.Refusal.{Refusal}
 use Rattle.table.specs.declared.Refusal.TheVariants.{Split, NotPower, TooMany, Lengths, Unreduced, Constant, NoVertex, TooLong, Missing, Closed, Broken, NotFrame, Coordinates, NoPlace}
-use Rattle.table.specs.declared.Verdict.{Verdict}
-use Rattle.table.specs.declared.Verdict.TheVariants.{Accepted, Refused}
-use Rattle.table.specs.declared.Evaluation.{Evaluation}
-use Rattle.table.specs.declared.Evaluation.TheVariants as evaluation
 use Rattle.table.specs.Table.{entries}
 
 -- this paper's number of a refusal
@@ -29,10 +25,10 @@ number NotFrame = 12
 number Coordinates = 13
 number NoPlace = 14
 
--- the number of a `Verdict`: 0, or the refusal's
-abbrev pub answer : Verdict → ℕ
-answer Accepted = 0
-answer (Refused r) = number r
+-- the number of an answer: 0, or the refusal's
+abbrev pub answer : {A : Type 0} → Result A Refusal → ℕ
+answer (Ok a) = 0
+answer (Err r) = number r
 
 -- an answer with values: its number, and the values' words
 pub record Outcome : Type 0 where
@@ -43,13 +39,10 @@ pub record Outcome : Type 0 where
 abbrev pub alone : ℕ → Outcome
 alone n = record { number = n; words = [] }
 
-abbrev pub value_words : Value → List ℕ
-value_words v = v.c0 ∷ v.c1 ∷ v.c2 ∷ v.c3 ∷ []
-
--- number and words of an `Evaluation`
-abbrev pub outcome : Evaluation → Outcome
-outcome (evaluation.Value v) = record { number = 0; words = value_words v }
-outcome (evaluation.Refused r) = alone (number r)
+-- number and words of an answer that gives an element: its four words, or the number alone
+abbrev pub outcome : Result Element Refusal → Outcome
+outcome (Ok e) = record { number = 0; words = e.c }
+outcome (Err r) = alone (number r)
 
 -- a test of an operation's list, and the number where it holds
 pub record Test : Type 0 where

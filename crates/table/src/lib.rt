@@ -4,19 +4,22 @@
 //     element      0      |      1      | ..
 #![tactic(auto)]
 
-ghost use Rattle.std.specs.Prelude.{◌≡◌, false, not, ◌+◌, ◌-◌, ◌*◌, ◌^◌, ◌≤◌, ◌<◌, min, eqb, length, replicate};
+ghost use Rattle.std.specs.Prelude.{◌≡◌, false, true, not, MatchResult, ◌+◌, ◌-◌, ◌*◌, ◌^◌, ◌≤◌, ◌<◌, min, eqb, length, replicate};
 ghost use Rattle.algebra.specs.Words.{unreduced};
 ghost use Rattle.field.specs.Field.{p, Holds};
 ghost use Rattle.table.specs.Table.{get_at, put_at, element_at, entries};
-ghost use Rattle.table.specs.Refusals.{number, answer, splits, too_many, rows_differ, most, not_power, variables, too_many_variables};
-ghost use Rattle.table.specs.Inner.{refuse_if, onward, entry_tests};
+ghost use Rattle.table.specs.Refusals.{number, answer, verdict, splits, too_many, rows_differ, most, not_power, variables, too_many_variables};
+ghost use Rattle.table.specs.Inner.{entry_tests};
 
-use field::{Element, Value};
+use field::Element;
+use std::error::Error;
+use std::fmt;
 
 // The most variables of a table, and coordinates of a point.
 pub const MOST: usize = 20;
 
-#[derive(Clone, Copy)]
+// What a call is refused for.
+#[derive(Clone, Copy, Debug, PartialEq, Eq)]
 pub enum Refusal {
     Split,
     NotPower,
@@ -34,70 +37,63 @@ pub enum Refusal {
     NoPlace,
 }
 
-// The answer of a call that fills what it was lent.
-#[derive(Clone, Copy)]
-pub enum Verdict {
-    Accepted,
-    Refused(Refusal),
-}
-
-// The answer of a call that gives one element.
-#[derive(Clone, Copy)]
-pub enum Evaluation {
-    Value(Value),
-    Refused(Refusal),
-}
-
-impl Verdict {
-    // The refusal, where none was given yet and the test holds: an operation's list of tests, in order.
-    pub fn refuse_if(self, test: bool, refusal: Refusal) -> Verdict
-        ensures { answer result ≡ refuse_if (answer self) test (number refusal) }
+impl Refusal {
+    // The number that answers give for it.
+    pub fn number(self) -> u32
+        ensures { result ≡ number self }
     {
         match self {
-            Verdict::Refused(first) => Verdict::Refused(first),
-            Verdict::Accepted => {
-                if test {
-                    Verdict::Refused(refusal)
-                } else {
-                    Verdict::Accepted
-                }
-            }
+            Refusal::Split => 1,
+            Refusal::NotPower => 2,
+            Refusal::TooMany => 3,
+            Refusal::Lengths => 4,
+            Refusal::Unreduced => 5,
+            Refusal::Constant => 6,
+            Refusal::NoVertex => 7,
+            Refusal::TooLong => 8,
+            Refusal::Missing => 9,
+            Refusal::Closed => 10,
+            Refusal::Broken => 11,
+            Refusal::NotFrame => 12,
+            Refusal::Coordinates => 13,
+            Refusal::NoPlace => 14,
         }
     }
+}
 
-    // 2, 3, where none was given yet, for a table of `count` entries and a point.
-    pub fn refuse_entries(self, count: usize, point: &[u32]) -> Verdict
-        ensures { answer result ≡ onward (answer self) (entry_tests count point.now) }
-    {
-        self.refuse_if(not_power(count), Refusal::NotPower)
-            .refuse_if(too_many_variables(count), Refusal::TooMany)
-            .refuse_if(too_many(point), Refusal::TooMany)
+impl fmt::Display for Refusal {
+    fn fmt<W: fmt::Write>(&self, f: &mut fmt::Formatter<W>) -> fmt::Result {
+        write!(f, "refused {}", self.number())
     }
+}
 
-    // 0, or the refusal's number.
-    pub fn answer(self) -> u32
-        ensures { result ≡ answer self }
-    {
-        match self {
-            Verdict::Accepted => 0,
-            Verdict::Refused(refusal) => match refusal {
-                Refusal::Split => 1,
-                Refusal::NotPower => 2,
-                Refusal::TooMany => 3,
-                Refusal::Lengths => 4,
-                Refusal::Unreduced => 5,
-                Refusal::Constant => 6,
-                Refusal::NoVertex => 7,
-                Refusal::TooLong => 8,
-                Refusal::Missing => 9,
-                Refusal::Closed => 10,
-                Refusal::Broken => 11,
-                Refusal::NotFrame => 12,
-                Refusal::Coordinates => 13,
-                Refusal::NoPlace => 14,
-            },
-        }
+impl Error for Refusal {}
+
+// 0, or the refusal's number.
+pub fn answer(outcome: Result<(), Refusal>) -> u32
+    ensures { result ≡ answer outcome }
+{
+    match outcome {
+        Ok(()) => 0,
+        Err(refusal) => refusal.number(),
     }
+}
+
+// The refusal, where the test holds. An operation's list of tests, in order, is a line `refuse_if(..)?;` for each.
+pub fn refuse_if(test: bool, refusal: Refusal) -> Result<(), Refusal>
+    ensures { MatchResult result (λ _. test ≡ false) (λ e. (test ≡ true) × (e ≡ refusal)) }
+{
+    if test { Err(refusal) } else { Ok(()) }
+}
+
+// 2, 3 for a table of `count` entries and a point.
+#[tactic(auto, using(crate::proofs::Verdicts::tests))]
+pub fn test_entries(count: usize, point: &[u32]) -> Result<(), Refusal>
+    ensures { answer result ≡ verdict (entry_tests count point.now) }
+{
+    refuse_if(not_power(count), Refusal::NotPower)?;
+    refuse_if(too_many_variables(count), Refusal::TooMany)?;
+    refuse_if(too_many(point), Refusal::TooMany)
 }
 
 // 1: the words split an element.
@@ -212,7 +208,5 @@ pub fn put(ws: &mut [u32], i: usize, e: Element)
 pub fn clear(ws: &mut [u32])
     ensures { ws.new ≡ replicate (length ws.old) 0 }
 {
-    for i in 0..ws.len() {
-        ws[i] = 0;
-    }
+    ws.fill(0)
 }

@@ -1,43 +1,36 @@
 -- What a shifted fold answers: by the tests of sizes, and then by the others. Assumes nothing.
-use mathlib.Core.Path.{◌≡◌, ◌∙◌}
+use mathlib.Core.Path.{◌≡◌}
 use Prim.Native.Nat.{ℕ, ◌/◌, ◌≤◌}
 use mathlib.Core.List.{List}
-use lib.ListN.{length, drop}
+use lib.ListN.{length}
 use borrow.Author.Tests.{ltb-false}
 use Rattle.octets.specs.Octets.{words}
 use Rattle.octets.proofs.Octets.{words_length}
-use Rattle.field.specs.declared.Element.{Element}
 use Rattle.table.specs.Table.{entries}
-use Rattle.table.specs.Refusals.{answer, Test, verdict, most, variables}
-use Rattle.table.specs.Inner.{onward}
+use Rattle.table.specs.Refusals.{number, verdict, most, variables}
 use Rattle.table.specs.declared.Refusal.{Refusal}
-use Rattle.table.specs.declared.Verdict.{Verdict}
-use Rattle.table.specs.declared.Verdict.TheVariants.{Refused}
-use Rattle.table.proofs.Verdicts.{gone_through, clear}
-use Rattle.table.proofs.Fronts.{front_refused, front_accepted}
-use Rattle.split_tests.specs.SplitTests.{sized_fold_tests}
+use Rattle.table.proofs.Verdicts.{clear}
+use Rattle.table.proofs.Fronts.{front_refused, front_passed}
+use Rattle.ward.specs.declared.shifted.Fold.{Fold}
 use Rattle.ward.specs.Ward.{fold_answer}
-use Rattle.ward.specs.Inner.{size_tests, Sized}
+use Rattle.ward.specs.Inner.{size_tests, other_tests, Sized}
 
-module _ (table point : List ℕ) (scale : Element) (work out : List ℕ) where
-  -- the tests after those of sizes
-  abbrev pub rest : List Test
-  rest = drop 3 (sized_fold_tests (words table) (words point) scale (words work) (words out))
+module _ (fold : Fold) (work out : List ℕ) where
+  abbrev whole : ℕ
+  whole = fold_answer fold.table.now fold.point.now fold.scale work out
 
-  pub refused_by_size : {r : Refusal} {t : Verdict} → t ≡ Refused r → answer t ≡ verdict (size_tests table point work out)
-      → answer (Refused r) ≡ fold_answer table point scale work out
+  pub refused_by_size : (r : Refusal) → number r ≡ verdict (size_tests fold work out) → number r ≡ whole
   unfolding fold_answer
-  refused_by_size e h = front_refused (size_tests table point work out) rest tt e h
+  refused_by_size r h = front_refused (size_tests fold work out) (other_tests fold work out) tt r h
 
-  module _ (s : Sized table point work out) where
-    pub by_others : {m : ℕ} → m ≡ onward 0 rest → m ≡ fold_answer table point scale work out
-    unfolding fold_answer
-    by_others q = gone_through rest tt q ∙ front_accepted (size_tests table point work out) rest tt s.accepted
+  pub by_others : 0 ≡ verdict (size_tests fold work out) → {n : ℕ} → n ≡ verdict (other_tests fold work out) → n ≡ whole
+  unfolding fold_answer
+  by_others h q = front_passed (size_tests fold work out) (other_tests fold work out) tt h q
 
-    -- at most 20 variables, and at most 20 coordinates
-    pub few : (variables (length table / 4) ≤ most) × (length point / 4 / 4 ≤ most)
-    few =
-        let many = (clear (size_tests table point work out) tt s.accepted).1.1.1.1.1 in (
-          rw (← words_length table) (ltb-false most (variables (length (words table))) many.0),
-          rw (← words_length point) (ltb-false most (entries (words point)) many.1.0),
-        )
+  -- at most 20 variables, and at most 20 coordinates
+  pub few : Sized fold work out → (variables (length fold.table.now / 4) ≤ most) × (length fold.point.now / 4 / 4 ≤ most)
+  few s =
+      let many = (clear (size_tests fold work out) tt s.accepted).1.1.1.1.1 in (
+        rw (← words_length fold.table.now) (ltb-false most (variables (length (words fold.table.now))) many.0),
+        rw (← words_length fold.point.now) (ltb-false most (entries (words fold.point.now)) many.1.0),
+      )

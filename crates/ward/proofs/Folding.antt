@@ -10,10 +10,8 @@ use Rattle.octets.specs.Octets.{words, octets}
 use Rattle.octets.proofs.Octets.{words_length}
 use Rattle.algebra.specs.Words.{unreduced}
 use Rattle.algebra.proofs.Words.{unreduced_append, unreduced_zeros}
-use Rattle.multilinear.specs.declared.Side.{Side}
 use Rattle.multilinear.specs.declared.Weight.TheVariants.{Shifted}
 use Rattle.field.specs.Field.{p, p_pos, from_words, Reduced}
-use Rattle.field.specs.declared.Element.{Element}
 use Rattle.table.specs.Table.{entries}
 use Rattle.table.specs.Refusals.{most, not_power, variables}
 use Rattle.table.proofs.Powers.{power_of}
@@ -28,75 +26,84 @@ use Rattle.plan.specs.Plan.{plan_of, fold_of}
 use Rattle.byte_fold.specs.Inner.{FillsBytes}
 use Rattle.byte_points.specs.Few.{Few}
 use Rattle.byte_points.proofs.Sizes.{whole_words, few, sized}
+use Rattle.ward.specs.declared.shifted.Fold.{Fold}
 use Rattle.ward.specs.Ward.{fold_answer}
 use Rattle.ward.specs.Inner.{Accepts, Tables}
 
-module _ (table point : List ℕ) (scale : Element) (work out : List ℕ) where
-  abbrev n : ℕ
-  n = variables (length (words table))
+-- the variables of the table, and the coordinates
+abbrev n : Fold → ℕ
+n fold = variables (length (words fold.table.now))
 
-  abbrev k : ℕ
-  k = entries (words point)
+abbrev k : Fold → ℕ
+k fold = entries (words fold.point.now)
 
-  -- what the tests leave
-  pub record Tested : Type 0 where
-    pub point_few : Few point
-    pub point_is : Coordinates k (words point)
-    pub scale_is : Reduced scale
-    pub small : n ≤ most
-    pub fits : k ≤ n
-    pub whole : length table % 4 ≡ 0
-    pub power : not_power (length (words table)) ≡ false
-    pub below : unreduced p (words table) ≡ false
-    pub work_room : length work ≡ 16 * (2 ^ first k + 2 ^ others k)
-    pub out_room : length out ≡ 16 * 2 ^ (n - k)
+-- what the tests leave
+pub record Tested (fold : Fold) (work out : List ℕ) : Type 0 where
+  pub point_few : Few fold.point.now
+  pub point_is : Coordinates (k fold) (words fold.point.now)
+  pub scale_is : Reduced fold.scale
+  pub small : n fold ≤ most
+  pub fits : k fold ≤ n fold
+  pub whole : length fold.table.now % 4 ≡ 0
+  pub power : not_power (length (words fold.table.now)) ≡ false
+  pub below : unreduced p (words fold.table.now) ≡ false
+  pub work_room : length work ≡ 16 * (2 ^ first (k fold) + 2 ^ others (k fold))
+  pub out_room : length out ≡ 16 * 2 ^ (n fold - k fold)
 
-  pub tested : Accepts table point scale work out → Tested
-  unfolding fold_answer
-  tested a = let h = clear _ tt a.accepted in search (few, coordinates, whole_words, ltb-false, same, sized)
+pub tested : {fold : Fold} {work out : List ℕ} → Accepts fold work out → Tested fold work out
+unfolding fold_answer
+tested a = let h = clear _ tt a.accepted in search (few, coordinates, whole_words, ltb-false, same, sized)
 
-  module _ (t : Tested) where
-    -- the counts as the code has them, and the point's words
-    module _ (n' : ℕ) (ps : List ℕ) (en : n' ≡ variables (length table / 4)) (ep : ps ≡ words point) where
-      abbrev k' : ℕ
-      k' = length point / 4 / 4
+-- the counts as the code has them, and the point's words
+module _ {fold : Fold} {work out : List ℕ} (t : Tested fold work out) {n' : ℕ} {ps : List ℕ}
+    (en : n' ≡ variables (length fold.table.now / 4)) (ep : ps ≡ words fold.point.now) where
+  abbrev table : List ℕ
+  table = fold.table.now
 
-      pub tables : Tables k' ps scale work
-      tables =
-          rw (ep, ← words_length point) (record { point_is = t.point_is; scale_is = t.scale_is; room = t.work_room })
+  abbrev point : List ℕ
+  point = fold.point.now
 
-      -- the plan that the code makes
-      abbrev planned : Side → Plan
-      planned side = plan_of n' k' side Shifted scale ps
+  abbrev k' : ℕ
+  k' = length point / 4 / 4
 
-      pub folds : (side : Side) → length table < 2 ^ 64 → FillsBytes (planned side) table out
-      folds side fits =
-          let zeros : List ℕ = replicate (4 * most - length (words point)) 0 in
-          let size : length table ≡ 4 * 2 ^ n =
-          omega (
-            arith,
-            t.whole,
-            words_length table,
-            power_of (length (words table)) (omega (arith, words_length table)) t.power,
-          )
-          in
-          rw (en, ep, ← words_length point, ← words_length table)
-          (record {
-            sound = record {
-              small = t.small;
-              fits = t.fits;
-              scale_is = t.scale_is;
-              coordinates_below = unreduced_append p (words point) zeros t.point_is.below
-                  (unreduced_zeros p p_pos (4 * most - length (words point)));
-            };
-            count = size;
-            below = t.below;
-            room = t.out_room;
-          })
+  pub tables : Tables k' ps fold.scale work
+  tables = rw (ep, ← words_length point) (record { point_is = t.point_is; scale_is = t.scale_is; room = t.work_room })
 
-      pub filled : {w : List ℕ} → w ≡ octets (work_words k' ps (from_words scale)) → w ≡ octets (both_tables (words point) scale)
-      filled q = q ∙ (rw (ep, words_length point))
+  pub plan_takes : length ps ≤ 4 * most
+  plan_takes = rw ep (omega (arith, words_length point, t.point_few.few))
 
-      pub folded_as : (side : Side) {o : List ℕ} → o ≡ octets (fold_of (planned side) (words table))
-          → o ≡ octets (folded side Shifted (words table) (words point) scale)
-      folded_as side q = q ∙ (rw (en, ep, words_length point, words_length table))
+  -- the plan that the code makes
+  abbrev planned : Plan
+  planned = plan_of n' k' fold.side Shifted fold.scale ps
+
+  pub folds : length table < 2 ^ 64 → FillsBytes planned table out
+  folds fits =
+      let zeros : List ℕ = replicate (4 * most - length (words point)) 0 in
+      let size : length table ≡ 4 * 2 ^ n fold =
+      omega (
+        arith,
+        t.whole,
+        words_length table,
+        power_of (length (words table)) (omega (arith, words_length table)) t.power,
+      )
+      in
+      rw (en, ep, ← words_length point, ← words_length table)
+      (record {
+        sound = record {
+          small = t.small;
+          fits = t.fits;
+          scale_is = t.scale_is;
+          coordinates_below = unreduced_append p (words point) zeros t.point_is.below
+              (unreduced_zeros p p_pos (4 * most - length (words point)));
+        };
+        count = size;
+        below = t.below;
+        room = t.out_room;
+      })
+
+  pub filled : {w : List ℕ} → w ≡ octets (work_words k' ps (from_words fold.scale)) → w ≡ octets (both_tables (words point) fold.scale)
+  filled q = q ∙ (rw (ep, words_length point))
+
+  pub folded_as : {o : List ℕ} → o ≡ octets (fold_of planned (words table))
+      → o ≡ octets (folded fold.side Shifted (words table) (words point) fold.scale)
+  folded_as q = q ∙ (rw (en, ep, words_length point, words_length table))

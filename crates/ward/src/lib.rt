@@ -11,6 +11,7 @@ ghost use Rattle.ward.specs.Ward.{scale_of, fold_answer, fold_work, fold_out};
 
 use field::Element;
 use multilinear::Side;
+use shifted::Fold;
 
 // out, of one element, becomes eq[vertex].
 #[unsafe(no_mangle)]
@@ -18,7 +19,7 @@ pub extern "C" fn ward_equality_at_vertex(point: &[u8], vertex: u64, out: &mut [
     ensures value { result ≡ vertex_answer point.now vertex out.old }
     ensures out_after { out.new ≡ vertex_out point.now vertex out.old }
 {
-    byte_points::equality_at_vertex(point, vertex as usize, out).answer()
+    table::answer(byte_points::equality_at_vertex(point, vertex as usize, out))
 }
 
 // out, of three elements, becomes carry, done and omega of two points.
@@ -27,10 +28,11 @@ pub extern "C" fn ward_eval_next(point: &[u8], other: &[u8], out: &mut [u8]) -> 
     ensures value { result ≡ next_answer point.now other.now out.old }
     ensures out_after { out.new ≡ next_out point.now other.now out.old }
 {
-    byte_points::eval_next(point, other, out).answer()
+    table::answer(byte_points::eval_next(point, other, out))
 }
 
 // out becomes the shifted fold over the first variables of a table; work holds both tables of the point after it.
+// A call for each side, and the scale as four words: the C interface needs it.
 #[unsafe(no_mangle)]
 pub extern "C" fn ward_compress_prefix_shifted(
     table: &[u8],
@@ -55,7 +57,13 @@ pub extern "C" fn ward_compress_prefix_shifted(
     let scale = Element {
         c: [scale0, scale1, scale2, scale3],
     };
-    shifted::compress(Side::Prefix, table, point, scale, work, out).answer()
+    let fold = Fold {
+        side: Side::Prefix,
+        table,
+        point,
+        scale,
+    };
+    table::answer(fold.compress(work, out))
 }
 
 // The same over the last variables.
@@ -83,5 +91,11 @@ pub extern "C" fn ward_compress_suffix_shifted(
     let scale = Element {
         c: [scale0, scale1, scale2, scale3],
     };
-    shifted::compress(Side::Suffix, table, point, scale, work, out).answer()
+    let fold = Fold {
+        side: Side::Suffix,
+        table,
+        point,
+        scale,
+    };
+    table::answer(fold.compress(work, out))
 }

@@ -8,82 +8,93 @@ ghost use Rattle.table.specs.Refusals.{answer, verdict};
 ghost use Rattle.split_eq.specs.Split.{both_tables, folded};
 ghost use Rattle.work.specs.Work.{work_words};
 ghost use Rattle.ward.specs.Ward.{fold_answer, fold_work, fold_out};
-ghost use Rattle.ward.specs.Inner.{size_tests, Sized, Accepts, Tables};
+ghost use Rattle.ward.specs.Inner.{size_tests, other_tests, Sized, Accepts, Tables};
 
 use field::Element;
 use multilinear::{Side, Weight};
-use table::{Refusal, Verdict};
+use table::Refusal;
 
-pub fn compress(
-    side: Side,
-    table: &[u8],
-    point: &[u8],
-    scale: Element,
-    work: &mut [u8],
-    out: &mut [u8],
-) -> Verdict
-    ensures result_value { answer result
-        ≡ fold_answer table.now point.now scale work.old out.old }
-    ensures work_after { work.new
-        ≡ fold_work table.now point.now scale work.old out.old }
-    ensures out_after { out.new
-        ≡ fold_out side table.now point.now scale work.old out.old }
-{
-    let tested = test(table, point, scale, work, out);
-    match tested {
-        Verdict::Refused(refusal) => Verdict::Refused(refusal),
-        Verdict::Accepted => {
-            fold(side, table, point, scale, work, out);
-            Verdict::Accepted
-        }
+// What is folded: a table and a point in bytes, and a scale.
+#[derive(Clone, Copy)]
+pub struct Fold<'a> {
+    pub side: Side,
+    pub table: &'a [u8],
+    pub point: &'a [u8],
+    pub scale: Element,
+}
+
+impl<'a> Fold<'a> {
+    #[tactic(auto, using(table::proofs::Outcomes::outcomes), unfolding(crate::specs::Ward::fold_work, crate::specs::Ward::fold_out))]
+    pub fn compress(&self, work: &mut [u8], out: &mut [u8]) -> Result<(), Refusal>
+        ensures result_value { answer result
+            ≡ fold_answer self.now.table.now self.now.point.now self.now.scale work.old out.old }
+        ensures work_after { work.new
+            ≡ fold_work self.now.table.now self.now.point.now self.now.scale work.old out.old }
+        ensures out_after { out.new
+            ≡ fold_out self.now.side self.now.table.now self.now.point.now self.now.scale work.old
+            out.old }
+    {
+        self.test(work, out)?;
+        self.fill(work, out);
+        Ok(())
     }
-}
 
-fn test(table: &[u8], point: &[u8], scale: Element, work: &[u8], out: &[u8]) -> Verdict
-    ensures { answer result
-        ≡ fold_answer table.now point.now scale work.now out.now }
-{
-    let tested = test_sizes(table, point, work, out);
-    match tested {
-        Verdict::Refused(refusal) => Verdict::Refused(refusal),
-        Verdict::Accepted => test_rest(table, point, scale, work, out),
+    fn test(&self, work: &[u8], out: &[u8]) -> Result<(), Refusal>
+        ensures { answer result
+            ≡ fold_answer self.now.table.now self.now.point.now self.now.scale work.now out.now }
+    {
+        self.test_sizes(work, out)?;
+        self.test_others(work, out)
     }
-}
 
-// 1, 2, 3.
-fn test_sizes(table: &[u8], point: &[u8], work: &[u8], out: &[u8]) -> Verdict
-    ensures { answer result
-        ≡ verdict (size_tests table.now point.now work.now out.now) }
-{
-    let count = table.len() / 4;
-    Verdict::Accepted
-        .refuse_if(table.len() % 4 != 0, Refusal::Split)
-        .refuse_if(point.len() % 16 != 0, Refusal::Split)
-        .refuse_if(work.len() % 16 != 0, Refusal::Split)
-        .refuse_if(out.len() % 16 != 0, Refusal::Split)
-        .refuse_if(table::not_power(count), Refusal::NotPower)
-        .refuse_if(table::too_many_variables(count), Refusal::TooMany)
-        .refuse_if(table::MOST < point.len() / 4 / 4, Refusal::TooMany)
-}
+    // 1, 2, 3.
+    #[tactic(auto, using(table::proofs::Verdicts::tests, octets::proofs::Octets::words_length))]
+    fn test_sizes(&self, work: &[u8], out: &[u8]) -> Result<(), Refusal>
+        ensures { answer result ≡ verdict (size_tests self.now work.now out.now) }
+    {
+        let count = self.table.len() / 4;
+        table::refuse_if(self.table.len() % 4 != 0, Refusal::Split)?;
+        table::refuse_if(self.point.len() % 16 != 0, Refusal::Split)?;
+        table::refuse_if(work.len() % 16 != 0, Refusal::Split)?;
+        table::refuse_if(out.len() % 16 != 0, Refusal::Split)?;
+        table::refuse_if(table::not_power(count), Refusal::NotPower)?;
+        table::refuse_if(table::too_many_variables(count), Refusal::TooMany)?;
+        table::refuse_if(table::MOST < self.point.len() / 4 / 4, Refusal::TooMany)
+    }
 
-// 4, 5.
-fn test_rest(table: &[u8], point: &[u8], scale: Element, work: &[u8], out: &[u8]) -> Verdict
-    requires { Sized table.now point.now work.now out.now }
-    ensures { answer result
-        ≡ fold_answer table.now point.now scale work.now out.now }
-{
-    let n = table::variables(table.len() / 4);
-    let k = point.len() / 4 / 4;
-    let words = scale.c;
-    let both = table::rows(k / 2) + table::rows(k - k / 2);
-    let places = table::rows(table::remaining(n, k));
-    Verdict::Accepted
-        .refuse_if(n < k, Refusal::Lengths)
-        .refuse_if(work.len() / 4 / 4 != both, Refusal::Lengths)
-        .refuse_if(out.len() / 4 / 4 != places, Refusal::Lengths)
-        .refuse_if(is_unreduced(table), Refusal::Unreduced)
-        .refuse_if(is_unreduced(point), Refusal::Unreduced)
-        .refuse_if(field::unreduced(&words), Refusal::Unreduced)
+    // 4, 5.
+    #[tactic(auto, using(table::proofs::Verdicts::tests, octets::proofs::Octets::words_length))]
+    fn test_others(&self, work: &[u8], out: &[u8]) -> Result<(), Refusal>
+        requires { Sized self.now work.now out.now }
+        ensures { answer result ≡ verdict (other_tests self.now work.now out.now) }
+    {
+        let n = table::variables(self.table.len() / 4);
+        let k = self.point.len() / 4 / 4;
+        let both = table::rows(k / 2) + table::rows(k - k / 2);
+        let places = table::rows(table::remaining(n, k));
+        table::refuse_if(n < k, Refusal::Lengths)?;
+        table::refuse_if(work.len() / 4 / 4 != both, Refusal::Lengths)?;
+        table::refuse_if(out.len() / 4 / 4 != places, Refusal::Lengths)?;
+        table::refuse_if(is_unreduced(self.table), Refusal::Unreduced)?;
+        table::refuse_if(is_unreduced(self.point), Refusal::Unreduced)?;
+        table::refuse_if(field::unreduced(&self.scale.c), Refusal::Unreduced)
+    }
+
+    // What an accepted call does.
+    fn fill(&self, work: &mut [u8], out: &mut [u8])
+        requires { Accepts self.now work.old out.old }
+        ensures work_after { work.new ≡ octets (both_tables (words self.now.point.now) self.now.scale) }
+        ensures out_after { out.new
+            ≡ octets (folded self.now.side Shifted (words self.now.table.now) (words self.now.point.now) self.now.scale) }
+    {
+        let n = table::variables(self.table.len() / 4);
+        let k = self.point.len() / 4 / 4;
+        let mut room = plan::room();
+        let point = byte_points::coordinates(self.point, &mut room);
+        fill_tables(work, point, k, self.scale);
+        let plan = plan::new(n, k, self.side, Weight::Shifted, self.scale, point);
+        byte_fold::compress(plan, self.table, out);
+    }
 }
 
 // 5: a word of the bytes is not below p. It reads on after such a word, as `field::unreduced` does.
@@ -97,34 +108,15 @@ fn is_unreduced(bytes: &[u8]) -> bool
     found
 }
 
-// What an accepted call does.
-fn fold(side: Side, table: &[u8], point: &[u8], scale: Element, work: &mut [u8], out: &mut [u8])
-    requires { Accepts table.now point.now scale work.old out.old }
-    ensures work_after { work.new ≡ octets (both_tables (words point.now) scale) }
-    ensures out_after { out.new
-        ≡ octets (folded side Shifted (words table.now) (words point.now) scale) }
-{
-    let n = table::variables(table.len() / 4);
-    let k = point.len() / 4 / 4;
-    let len = point.len() / 4;
-    let zs = byte_points::coordinates(point);
-    fill(work, &zs[..len], k, scale);
-    byte_fold::compress(
-        plan::new(n, k, side, Weight::Shifted, scale, &zs[..len]),
-        table,
-        out,
-    );
-}
-
 // Both tables of the point, as bytes.
-fn fill(work: &mut [u8], point: &[u32], k: usize, scale: Element)
+fn fill_tables(work: &mut [u8], point: &[u32], k: usize, scale: Element)
     requires { Tables k point.now scale work.old }
     ensures { work.new ≡ octets (work_words k point.now (from_words scale)) }
 {
-    let mut tables = tables_room();
-    let len = work.len() / 4;
-    work::fill(&mut tables[..len], point, k, scale);
-    octets::encode(&tables[..len], work);
+    let mut room = tables_room();
+    let tables = &mut room[..work.len() / 4];
+    work::fill(tables, point, k, scale);
+    octets::encode(tables, work);
 }
 
 // The words of two tables of 10 coordinates.

@@ -15,11 +15,11 @@ pub fn of_words(c: [u32; 4]) -> Element
 }
 
 pub fn run(rt: &impl Print) -> io::Result<()> {
-    print::text(rt, b"X * X^3 =")?;
-    print::element(rt, of_words([0, 1, 0, 0]).mul(of_words([0, 0, 0, 1])))?;
-    print::text(rt, b"2X^3 * 3X^3 =")?;
-    print::element(rt, of_words([0, 0, 0, 2]).mul(of_words([0, 0, 0, 3])))?;
+    let one = of_words([0, 1, 0, 0]).mul(of_words([0, 0, 0, 1]));
+    println!(rt; "X * X^3 = {one}")?;
+    let two = of_words([0, 0, 0, 2]).mul(of_words([0, 0, 0, 3]));
+    println!(rt; "2X^3 * 3X^3 = {two}")?;
     let last = of_words([Element::MODULUS - 1, 0, 0, 0]);
-    print::text(rt, b"(p - 1)^2 =")?;
-    print::element(rt, last.mul(last))
+    let square = last.mul(last);
+    println!(rt; "(p - 1)^2 = {square}")
 }

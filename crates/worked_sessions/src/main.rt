@@ -5,14 +5,19 @@
 use field::Element;
 use ledger::Session;
 use multilinear::{Side, Weight};
-use session::Settled;
+use print::Elements;
 use std::io;
+use table::Refusal;
 
-// The session by value, and the one that is lent.
-#[derive(Clone, Copy)]
-struct Both {
+const POINT: [u32; 4] = [2, 0, 0, 0];
+
+// The session by value and the one that is lent, and out of each.
+#[derive(Drop)]
+struct Both<'a> {
     plain: Session,
     lent: Session,
+    out: &'a mut [u32],
+    again: &'a mut [u32],
 }
 
 fn main(rt: HostRuntime) -> io::Result<()> {
@@ -21,112 +26,94 @@ fn main(rt: HostRuntime) -> io::Result<()> {
 }
 
 fn listing(rt: &impl Print) -> io::Result<()> {
-    let point = [2, 0, 0, 0];
-    let one = [1u32; 1];
-    let unreduced = [4, Element::MODULUS];
-    let two = [4, 9];
-    let many = [16, 1];
-    let last = [16u32; 1];
     let mut out = [7u32; 8];
     let mut again = [7u32; 8];
-    let s = opened(rt, b"a session of 4 words:", &point, &mut out, &mut again)?;
-    let s = fed(rt, b"feed 1:", s, &one, &mut out, &mut again)?;
-    let s = fed(rt, b"feed 4, p:", s, &unreduced, &mut out, &mut again)?;
-    let s = closed(rt, b"close:", s, &out, &again)?;
-    let s = fed(rt, b"feed 4, 9:", s, &two, &mut out, &mut again)?;
-    let s = fed(rt, b"feed 16, 1:", s, &many, &mut out, &mut again)?;
-    let s = fed(rt, b"feed 16:", s, &last, &mut out, &mut again)?;
-    let s = closed(rt, b"close:", s, &out, &again)?;
-    let s = closed(rt, b"close:", s, &out, &again)?;
-    let s = fed(rt, b"feed 16:", s, &last, &mut out, &mut again)?;
-    let mut broken = s;
-    broken.plain.taken = 5;
-    broken.lent.taken = 5;
-    closed(rt, b"close with 5 words taken:", broken, &out, &again)?;
-    left(rt, &out, &again)
-}
-
-// Both outs.
-fn left(rt: &impl Print, out: &[u32], again: &[u32]) -> io::Result<()> {
-    print::text(rt, b"out:")?;
-    print::elements(rt, out)?;
-    print::text(rt, b", lent:")?;
-    print::elements(rt, again)?;
-    print::text(rt, b"\n")
+    let mut s = opened(rt, "a session of 4 words", &mut out, &mut again)?;
+    s.fed(rt, "feed 1", &[1])?;
+    s.fed(rt, "feed 4, p", &[4, Element::MODULUS])?;
+    s.closed(rt, "close")?;
+    s.fed(rt, "feed 4, 9", &[4, 9])?;
+    s.fed(rt, "feed 16, 1", &[16, 1])?;
+    s.fed(rt, "feed 16", &[16])?;
+    s.closed(rt, "close")?;
+    s.closed(rt, "close")?;
+    s.fed(rt, "feed 16", &[16])?;
+    s.plain.taken = 5;
+    s.lent.taken = 5;
+    s.closed(rt, "close with 5 words taken")?;
+    s.left(rt)
 }
 
 // An open that is refused, since out has one element and not two: every call on what it gives is refused too, and out keeps its words.
 fn unopened(rt: &impl Print) -> io::Result<()> {
-    let point = [2, 0, 0, 0];
-    let two = [1, 4];
     let mut out = [7u32; 4];
     let mut again = [7u32; 4];
-    let s = opened(
+    let mut s = opened(
         rt,
-        b"a session with an out of one element:",
-        &point,
+        "a session with an out of one element",
         &mut out,
         &mut again,
     )?;
-    let s = fed(rt, b"feed 1, 4:", s, &two, &mut out, &mut again)?;
-    closed(rt, b"close:", s, &out, &again)?;
-    left(rt, &out, &again)
+    s.fed(rt, "feed 1, 4", &[1, 4])?;
+    s.closed(rt, "close")?;
+    s.left(rt)
 }
 
-fn opened(
+fn opened<'a>(
     rt: &impl Print,
-    call: &[u8],
-    point: &[u32],
-    out: &mut [u32],
-    again: &mut [u32],
-) -> io::Result<Both> {
-    let plain = session::open(2, Side::Prefix, Weight::Next, Element::one(), point, out);
-    let lent = session::open(2, Side::Prefix, Weight::Next, Element::one(), point, again);
-    told(rt, call, plain, lent)
+    call: &str,
+    out: &'a mut [u32],
+    again: &'a mut [u32],
+) -> io::Result<Both<'a>> {
+    let one = Element::one();
+    let plain = session::open(2, Side::Prefix, Weight::Next, one, &POINT, out);
+    let lent = session::open(2, Side::Prefix, Weight::Next, one, &POINT, again);
+    told(rt, call, plain, lent)?;
+    Ok(Both {
+        plain: plain.unwrap_or(session::no_session()),
+        lent: lent.unwrap_or(session::no_session()),
+        out,
+        again,
+    })
 }
 
-fn fed(
+impl Both<'_> {
+    fn fed(&mut self, rt: &impl Print, call: &str, piece: &[u32]) -> io::Result<()> {
+        let plain = session::feed(self.plain, piece, self.out);
+        let lent = lent::feed_through(self.lent, piece, self.again);
+        told(rt, call, plain, lent)?;
+        self.plain = plain.unwrap_or(self.plain);
+        self.lent = lent.unwrap_or(self.lent);
+        Ok(())
+    }
+
+    fn closed(&mut self, rt: &impl Print, call: &str) -> io::Result<()> {
+        let plain = session::close(self.plain, self.out);
+        let lent = lent::close_through(self.lent, self.again);
+        told(rt, call, plain, lent)?;
+        self.plain = plain.unwrap_or(self.plain);
+        self.lent = lent.unwrap_or(self.lent);
+        Ok(())
+    }
+
+    // Both outs.
+    fn left(&self, rt: &impl Print) -> io::Result<()> {
+        println!(rt;
+            "out: {}, lent: {}",
+            Elements(self.out),
+            Elements(self.again)
+        )
+    }
+}
+
+// What a call answered, by value and lent.
+fn told(
     rt: &impl Print,
-    call: &[u8],
-    s: Both,
-    piece: &[u32],
-    out: &mut [u32],
-    again: &mut [u32],
-) -> io::Result<Both> {
-    let plain = s.plain;
-    let lent = s.lent;
-    told(
-        rt,
-        call,
-        session::feed(plain, piece, out),
-        lent::feed_through(lent, piece, again),
-    )
-}
-
-fn closed(rt: &impl Print, call: &[u8], s: Both, out: &[u32], again: &[u32]) -> io::Result<Both> {
-    let plain = s.plain;
-    let lent = s.lent;
-    told(
-        rt,
-        call,
-        session::close(plain, out),
-        lent::close_through(lent, again),
-    )
-}
-
-// What a call answered, by value and lent; the sessions after it.
-fn told(rt: &impl Print, call: &[u8], first: Settled, second: Settled) -> io::Result<Both> {
-    let plain = first.session;
-    let lent = second.session;
-    print::text(rt, call)?;
-    answer(rt, first)?;
-    print::text(rt, b", lent:")?;
-    answer(rt, second)?;
-    print::text(rt, b"\n")?;
-    Ok(Both { plain, lent })
-}
-
-fn answer(rt: &impl Print, settled: Settled) -> io::Result<()> {
-    let verdict = settled.answer;
-    print::word(rt, verdict.answer())
+    call: &str,
+    plain: Result<Session, Refusal>,
+    lent: Result<Session, Refusal>,
+) -> io::Result<()> {
+    let plain = table::answer(plain.map(|_| ()));
+    let lent = table::answer(lent.map(|_| ()));
+    println!(rt; "{call}: {plain}, lent: {lent}")
 }

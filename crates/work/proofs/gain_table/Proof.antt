@@ -45,7 +45,6 @@ plus-requires : tie.Need-plus-sum-requires invariant-loop decreases-loop
 plus-requires c κs =
     let read = c.before in
     let test = read.before in (
-      (new test).new-m.ensures.1,
       read.read-e.ensures.below,
       rw c.get.ensures (reduced_at _ (test.before.loop-i.invariant.1.below (begin test).requires.0.out_below) _),
     )
@@ -74,7 +73,7 @@ returns : tie.Need-returns invariant-loop decreases-loop
 returns c =
     let at = c.before in
     let q : at.loop-i.i ≡ at.before.before.before.before.args.n = omega arith in
-    rw (q, at.before.new-m.ensures.0) at at.loop-i.invariant.1
+    rw (q, at.before.new-m.ensures) at at.loop-i.invariant.1
 
 pub gain_table_spec : {M : Type 1} → statement M
 gain_table_spec =

@@ -48,7 +48,7 @@ returns : tie.Need-returns invariant-loop decreases-loop
 returns c =
     let at = c.before in
     let q : at.loop-i.i ≡ at.before.before.before.args.n = omega arith in
-    rw (q, at.before.new-m.ensures.0) at at.loop-i.invariant
+    rw (q, at.before.new-m.ensures) at at.loop-i.invariant
 
 pub double_spec : {M : Type 1} → statement M
 double_spec =
@@ -59,7 +59,7 @@ double_spec =
     (λ c κs. c.before.requires.by)
     loop-holds
     (search rules)
-    (λ c κs. ((new c).new-m.ensures.1, read c))
+    (λ c κs. read c)
     (λ c κs. (read c.before, c.times-high.ensures.below))
     (search rules)
     (search rules)

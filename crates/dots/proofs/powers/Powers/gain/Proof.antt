@@ -19,13 +19,13 @@ returns c =
     let lines3 = lines2.before.before in
     let lines0 = lines3.before.before.before in
     record {
-      at0 = rw lines0.lines_0-at0.ensures.once_is at lines3.before.before.gain-s0.ensures;
-      at1 = rw lines1.lines_1-at1.ensures.once_is at c.before.gain-s1.ensures;
-      at2 = rw lines2.lines_2-at2.ensures.once_is at lines1.before.before.gain-s2.ensures;
-      at3 = rw lines3.lines_3-at3.ensures.once_is at lines2.before.gain-s3.ensures;
-      at4 = rw lines0.lines_0-at0.ensures.back_is at lines3.before.gain-s4.ensures;
-      at5 = rw lines1.lines_1-at1.ensures.back_is at c.gain-s5.ensures;
-      at6 = rw lines2.lines_2-at2.ensures.back_is at lines1.before.gain-s6.ensures;
+      at0 = rw lines0.lines-at0.ensures.once_is at lines3.before.before.gain-s0.ensures;
+      at1 = rw lines1.lines-at1.ensures.once_is at c.before.gain-s1.ensures;
+      at2 = rw lines2.lines-at2.ensures.once_is at lines1.before.before.gain-s2.ensures;
+      at3 = rw lines3.lines-at3.ensures.once_is at lines2.before.gain-s3.ensures;
+      at4 = rw lines0.lines-at0.ensures.back_is at lines3.before.gain-s4.ensures;
+      at5 = rw lines1.lines-at1.ensures.back_is at c.gain-s5.ensures;
+      at6 = rw lines2.lines-at2.ensures.back_is at lines1.before.gain-s6.ensures;
     }
 
 pub gain_spec : {M : Type 1} → statement M

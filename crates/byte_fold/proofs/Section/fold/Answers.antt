@@ -1,0 +1,22 @@
+-- `byte_fold::Section::fold`: the sums stand at the front of the room. Assumes nothing.
+use Rattle.std.proofs.Common.{◌∙◌, ◌*◌, arith, sym, ap, length, ℕ}
+use Rattle.std.proofs.Math.ListN.{length-replicate}
+use Rattle.plan.specs.Plan.{capacity}
+use Rattle.byte_fold.specs.Inner.{most_block}
+use Rattle.byte_fold.proofs.Adding.{sums_fit, sums_size}
+use Rattle.byte_fold.proofs.Blocks.{lent}
+use Rattle.byte_fold.proofs.Section.fold.Goals as goal
+
+pub slice_bounds-room-end : goal.slice_bounds-room-end
+slice_bounds-room-end c =
+    omega (arith, sums_fit c.requires.0 c.rows.ensures, ap length c.room-room.ensures ∙ length-replicate {A = ℕ} most_block 0)
+
+pub slice_bounds-sums-end : goal.slice_bounds-sums-end
+slice_bounds-sums-end c = sym (lent c.room-room.ensures (sums_fit c.requires.0 c.rows.ensures))
+
+pub add_blocks-requires : goal.add_blocks-requires
+add_blocks-requires c =
+    (c.requires.0, lent c.room-room.ensures (sums_fit c.requires.0 c.rows.ensures) ∙ ap (λ m. 4 * m) c.rows.ensures)
+
+pub encode-requires : goal.encode-requires
+encode-requires c = omega (arith, c.requires.1, sums_size c.requires.0 (capacity c.args.self.now.plan) c.add_blocks.ensures)

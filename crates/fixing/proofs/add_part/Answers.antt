@@ -1,0 +1,8 @@
+-- `fixing::add_part` meets its contract: by the pair of each entry. Assumes nothing.
+use Rattle.std.proofs.Common.{rules}
+use Rattle.field.specs.Field.{field}
+use Rattle.fixing.proofs.Combining.{pairs_by}
+use Rattle.fixing.proofs.add_part.Goals as goal
+
+pub returns : goal.returns
+returns c = pairs_by _ field.add (λ y j p. search rules) (λ a b e m. search rules) c.combine.ensures

@@ -1,7 +1,0 @@
--- `host_values::host_poly_eval_next_base` meets its contract. Assumes nothing.
-use borrow.Author.Rules.{rules}
-use Rattle.host_values.proofs.host_poly_eval_next_base.Statement.{statement}
-use Rattle.host_values.proofs.host_poly_eval_next_base.Tie as tie
-
-pub host_poly_eval_next_base_spec : {M : Type 1} → statement M
-host_poly_eval_next_base_spec = tie.close (tie.spec (λ c κs. search rules) (λ c κs. search rules) (λ c. rw (c.give.ensures, c.before.before.eval_next_base.ensures)))

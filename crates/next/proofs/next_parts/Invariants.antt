@@ -1,0 +1,6 @@
+-- carry, done and omega are those of the pairs from j on: `Nexting`. Assumes nothing.
+use Rattle.next.proofs.Pairs.{Nexting}
+use Rattle.next.proofs.next_parts.Given as goal
+
+abbrev pub invariant-loop-j : goal.invariant-loop-j
+invariant-loop-j l = Nexting l.point l.other l.k l.j l.carry l.done l.omega

@@ -1,0 +1,13 @@
+-- What the tests say of the table and of the point. Assumes nothing.
+use Prim.Native.Nat.{◌^◌, ◌<◌}
+use native.Mathlib.Omega.{arith}
+use lib.ListN.{length}
+use Rattle.table.proofs.Says.{accepted}
+use Rattle.point.proofs.Coordinates.{point-says}
+use Rattle.poly.proofs.value.eval_base.Goals as goal
+
+pub value-requires : goal.value-requires
+value-requires c =
+    let fits : length c.args.table.now < 2 ^ 64 = omega arith in
+    let h = accepted _ tt c.in_ok-test_base.ensures in
+    search point-says

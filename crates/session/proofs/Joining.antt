@@ -1,0 +1,52 @@
+-- Lists of tests one behind the other, as a session's go: the answer of the first, and then of the others; and what a record's sizes are
+-- behind its tests. Assumes nothing.
+use Rattle.std.proofs.Common.{◌≡◌, refl, sym, ℕ, ◌≤◌, Bool, true, false, List, [], ◌∷◌, ◌++◌}
+use borrow.Author.Tests.{ltb-false}
+use mathlib.Core.Bool.{cond}
+use Rattle.table.specs.Refusals.{Test, number, verdict, most}
+use Rattle.table.specs.declared.Refusal.{Refusal}
+use Rattle.table.proofs.Answers.{number_some}
+use Rattle.table.proofs.Verdicts.{Numbered, Clear, clear}
+use Rattle.plan.specs.Plan.{capacity}
+use Rattle.ledger.specs.declared.Session.{Session}
+use Rattle.ledger.specs.Session.{State, record_tests}
+use Rattle.session.specs.Inner.{ready_tests}
+
+-- the first list refuses
+pub refused : (ts us : List Test) (r : Refusal) → number r ≡ verdict ts → number r ≡ verdict (ts ++ us)
+unfolding verdict
+refused ts us r e = given ts (number r) (number_some r) e
+  where
+    given : (ts : List Test) (m : ℕ) → (0 ≡ m → ⊥) → m ≡ verdict ts → m ≡ verdict (ts ++ us)
+    given [] m h e = absurd (h (sym e))
+    given (t ∷ ts) m h e = one t.holds t.number (given ts m h) e
+      where
+        one : (b : Bool) (n : ℕ) → (m ≡ verdict ts → m ≡ verdict (ts ++ us)) → m ≡ cond b n (verdict ts)
+            → m ≡ cond b n (verdict (ts ++ us))
+        one true n f e = e
+        one false n f e = f e
+
+-- the first list accepts
+pub accepted : (ts us : List Test) → Numbered ts → 0 ≡ verdict ts → verdict (ts ++ us) ≡ verdict us
+unfolding verdict
+accepted ts us n e = past ts (clear ts n e)
+  where
+    past : (ts : List Test) → Clear ts → verdict (ts ++ us) ≡ verdict us
+    past [] h = refl
+    past (t ∷ ts) h = rw h.0 (past ts h.1)
+
+-- the sizes of a record that is not broken
+pub record Sizes (s : Session) : Type 0 where
+  pub small : s.plan.n ≤ most
+  pub fits : s.plan.k ≤ s.plan.n
+  pub room : s.taken ≤ capacity s.plan
+
+pub of_record : (s : Session) → 0 ≡ verdict (record_tests s) → Sizes s
+of_record s e =
+    let h = clear (record_tests s) tt e in
+    record { small = ltb-false _ _ h.0; fits = ltb-false _ _ h.1.0; room = ltb-false _ _ h.1.1.0 }
+
+pub of_ready : (st : State) → 0 ≡ verdict (ready_tests st) → Sizes st.session
+of_ready st e =
+    let h = clear (ready_tests st) tt e in
+    record { small = ltb-false _ _ h.0; fits = ltb-false _ _ h.1.0; room = ltb-false _ _ h.1.1.0 }
