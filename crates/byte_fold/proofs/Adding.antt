@@ -39,9 +39,9 @@ module _ {s : Section} (d : Cut s) where
   sums_fit e = let le : H ≤ 2 ^ 10 = pow_mono {j = 10} d.few in omega (arith, le)
 
   -- no sum yet
-  pub none_added : {z : ℕ} {sums : List ℕ} → z ≡ 4 * H → sums ≡ replicate z 0 → sums ≡ sums_to s 0
+  pub none_added : {sums : List ℕ} → sums ≡ replicate (4 * H) 0 → sums ≡ sums_to s 0
   unfolding first_words
-  none_added e q = q ∙ ap (λ m. replicate m 0) e ∙ none s.plan
+  none_added q = q ∙ none s.plan
 
   -- the first row is a block
   module _ {len : ℕ} (l : len ≡ first_row s.plan.side H) where

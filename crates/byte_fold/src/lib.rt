@@ -43,7 +43,7 @@ pub fn compress(plan: Plan, table: &[u8], out: &mut [u8])
     requires { FillsBytes plan table.now out.old }
     ensures { out.new ≡ octets (fold_of plan (words table.now)) }
 {
-    let held = table::min(plan.n - plan.k, HELD);
+    let held = (plan.n - plan.k).min(HELD);
     let places = table::rows(held);
     // No plainer: nothing is known of a slice that `chunks_exact_mut` lent.
     for j in 0..table::rows(plan.n - plan.k - held) {
@@ -83,18 +83,18 @@ impl<'a> Section<'a> {
         octets::encode(sums, out);
     }
 
-    // The sums of the section's places gain block after block. A shifted row's weight is that of the row before, so blocks that start a
+    // The sums of the section's places, from none on, gain block after block. A shifted row's weight is that of the row before, so blocks that start a
     // row late have the weights of whole blocks of rows; the first row weighs nothing.
     fn add_blocks(&self, sums: &mut [u32])
-        requires { Cut self.now × (length sums.old ≡ 4 * places self.now.plan) }
+        requires { Cut self.now × (sums.old ≡ replicate (4 * places self.now.plan) 0) }
         ensures { sums.new ≡ sums_to self.now (capacity self.now.plan) }
     {
         let end = table::rows(self.plan.n);
         let first = self.first_row();
-        table::clear(sums);
-        self.add_block(0..first, sums);
+        let mut room = room();
+        self.add_block(0..first, &mut room, sums);
         for at in (first..end).step_by(BLOCK) {
-            self.add_block(at..end.min(at + BLOCK), sums);
+            self.add_block(at..end.min(at + BLOCK), &mut room, sums);
         }
     }
 
@@ -109,15 +109,14 @@ impl<'a> Section<'a> {
         }
     }
 
-    // The sums gain a block.
-    fn add_block(&self, block: Range<usize>, sums: &mut [u32])
+    // The sums gain a block, which is read into the room.
+    fn add_block(&self, block: Range<usize>, room: &mut [u32; BLOCK], sums: &mut [u32])
         requires cut { Cut self.now × (block.start ≤ block.end) }
         requires portion { Portion self.now.plan block.start (block.end - block.start) }
         requires sums_value { sums.old ≡ sums_to self.now block.start }
         ensures { sums.new ≡ sums_to self.now block.end }
     {
         let at = block.start;
-        let mut room = room();
         let words = &mut room[..block.end - at];
         self.gather(at, words);
         piece::add(self.plan, at, words, sums);

@@ -1,3 +1,4 @@
+mod Arrays
 mod Summing
 mod FewWords
 mod Settling

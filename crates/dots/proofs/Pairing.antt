@@ -1,10 +1,11 @@
 -- The sums of the products of two tables of elements, coefficient by coefficient, and what they stand for. Assumes nothing.
 use mathlib.Core.Path.{◌≡◌, refl, sym, ap, ap₂, ◌∙◌}
 use mathlib.Core.Bool.{true}
-use Prim.Native.Nat.{ℕ, zero, suc, ◌+◌, ◌*◌, ◌≤◌}
+use Prim.Native.Nat.{ℕ, zero, suc, ◌+◌, ◌*◌, ◌≤◌, ◌<◌}
 use native.Mathlib.Nat.{add-zero, mul-zero}
 use native.Mathlib.Numerals.{add-one}
 use native.Mathlib.Omega.{arith}
+use mathlib.Core.List.{List}
 use Rattle.algebra.specs.Residue.{reduce, residues}
 use Rattle.algebra.specs.Quartic.{quartic}
 use Rattle.algebra.specs.Sum.{sum_to}
@@ -16,8 +17,7 @@ use Rattle.field.specs.Product.{once_at, back_at}
 use Rattle.field.specs.declared.Element.{Element}
 use Rattle.field.proofs.Laws.{holds, read_back}
 use Rattle.dots.specs.declared.halves.Halves.{Halves}
-use Rattle.dots.specs.declared.powers.Powers.{Powers}
-use Rattle.dots.specs.Inner.{value, Within, Kept, Each, RoomEach, coefficients, coefficient, Raised, settled_powers, most_gains}
+use Rattle.dots.specs.Inner.{value, Within, Kept, Each, EachGrown, Room, coefficients, coefficient, settled_powers, most_gains}
 use Rattle.dots.proofs.Summing.{kept_none, kept_room, kept_more}
 
 -- no line that comes back gives X³
@@ -40,17 +40,8 @@ product_law x y = words_product (to_words x) (to_words y) ∙ ap₂ field.mul (r
         ∙ numbers_mul p p_pos factor (at a) (at b)
 
 -- from what holds of each sum, what follows of it
-each_map : {P Q : ℕ → Halves → Type 0} {s : Powers} → ((k : ℕ) (h : Halves) → P k h → Q k h) → Each P s → Each Q s
-each_map f e =
-    record {
-      at0 = f 0 _ e.at0;
-      at1 = f 1 _ e.at1;
-      at2 = f 2 _ e.at2;
-      at3 = f 3 _ e.at3;
-      at4 = f 4 _ e.at4;
-      at5 = f 5 _ e.at5;
-      at6 = f 6 _ e.at6;
-    }
+each_map : {n : ℕ} {P Q : ℕ → Halves → Type 0} {s : List Halves} → ((k : ℕ) (h : Halves) → P k h → Q k h) → Each n P s → Each n Q s
+each_map f e = record { each = λ k l. f k _ (e.each k l) }
 
 -- the sum of f y g y over y
 module _ (f g : ℕ → Ext) where
@@ -64,32 +55,25 @@ module _ (f g : ℕ → Ext) where
   power k (suc n) = power k n + term n k
 
   -- s is the sum of the first n products
-  abbrev pub Paired : ℕ → Powers → Type 0
-  Paired n s = Each (λ k h. Kept (power k) n h) s
+  abbrev pub Paired : ℕ → List Halves → Type 0
+  Paired n s = Each 7 (λ k h. Kept (power k) n h) s
 
-  pub start : {s : Powers} → Each (λ k h. (value h ≡ 0) × Within 0 h) s → Paired 0 s
+  pub start : {s : List Halves} → Each 7 (λ k h. (value h ≡ 0) × Within 0 h) s → Paired 0 s
   unfolding power
   start e = each_map (λ k h z. kept_none (power k) refl z) e
 
-  pub room : (n : ℕ) {s : Powers} → n ≤ most_gains → Paired n s → RoomEach s
+  pub room : (n : ℕ) {s : List Halves} → n ≤ most_gains → Paired n s → Room 7 s
   room n l u = each_map (λ k h v. kept_room (power k) n v l) u
 
   next : (n k : ℕ) → power k (n + 1) ≡ power k n + term n k
   unfolding power
   next n k = rw add-one refl
 
-  pub turn : (n : ℕ) {s r : Powers} {x y : Element} → Paired n s → Holds x (f n) → Holds y (g n) → Raised s x y r → Paired (n + 1) r
-  turn n {s} {r} u hx hy raised =
-      let grown : Raised s (to_words (f n)) (to_words (g n)) r = rw (hx.words, hy.words) at raised in
-      record {
-        at0 = kept_more (power 0) n u.at0 1 _ (omega arith) (next n 0) grown.at0;
-        at1 = kept_more (power 1) n u.at1 1 _ (omega arith) (next n 1) grown.at1;
-        at2 = kept_more (power 2) n u.at2 1 _ (omega arith) (next n 2) grown.at2;
-        at3 = kept_more (power 3) n u.at3 1 _ (omega arith) (next n 3) grown.at3;
-        at4 = kept_more (power 4) n u.at4 1 _ (omega arith) (next n 4) grown.at4;
-        at5 = kept_more (power 5) n u.at5 1 _ (omega arith) (next n 5) grown.at5;
-        at6 = kept_more (power 6) n u.at6 1 _ (omega arith) (next n 6) grown.at6;
-      }
+  pub turn : (n : ℕ) {s r : List Halves} {x y : Element} → Paired n s → Holds x (f n) → Holds y (g n)
+      → EachGrown 7 s (coefficients x y) r → Paired (n + 1) r
+  turn n {s} {r} u hx hy grown =
+      let at_words : EachGrown 7 s (coefficients (to_words (f n)) (to_words (g n))) r = rw (hx.words, hy.words) at grown in
+      record { each = λ k l. kept_more (power k) n (u.each k l) 1 _ (omega arith) (next n k) (at_words.each k l) }
 
   abbrev product : ℕ → Ext
   product y = field.mul (f y) (g y)
@@ -111,8 +95,17 @@ module _ (f g : ℕ → Ext) where
   sum_law zero = none
   sum_law (suc n) = more n ∙ ap (λ (x : Ext). field.add x (product n)) (sum_law n)
 
-  pub finish : (n : ℕ) {s : Powers} → Paired n s → Holds (settled_powers s) (sum_to field n product)
+  pub finish : (n : ℕ) {s : List Halves} → Paired n s → Holds (settled_powers s) (sum_to field n product)
   unfolding settled_powers to_words words_of numbers reduce
   finish n u =
+      let is = λ (k : ℕ) (l : k < 7). (u.each k l).is in
       holds _
-      (rw (u.at0.is, u.at1.is, u.at2.is, u.at3.is, u.at4.is, u.at5.is, u.at6.is) (ap to_words (sum_law n)))
+      (rw (
+        is 0 (omega arith),
+        is 1 (omega arith),
+        is 2 (omega arith),
+        is 3 (omega arith),
+        is 4 (omega arith),
+        is 5 (omega arith),
+        is 6 (omega arith),
+      ) (ap to_words (sum_law n)))

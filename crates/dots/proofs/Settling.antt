@@ -2,6 +2,7 @@
 use mathlib.Core.Path.{◌≡◌, refl, ap, ◌∙◌}
 use Prim.Native.Nat.{ℕ, zero, suc, ◌+◌, ◌*◌, ◌%◌}
 use native.Mathlib.Nat.{mul_comm, add-zero}
+use native.Mathlib.Omega.{arith}
 use mathlib.Core.List.{List, [], ◌∷◌}
 use lib.ListN.{length, get_or}
 use Rattle.algebra.specs.Residue.{reduce, residues}
@@ -14,7 +15,6 @@ use Rattle.field.proofs.Laws.{holds}
 use Rattle.field.proofs.Multiples.{numbers_gain}
 use Rattle.table.specs.Table.{get_at, element_at}
 use Rattle.dots.specs.declared.halves.Halves.{Halves}
-use Rattle.dots.specs.declared.sums.Sums.{Sums}
 use Rattle.field.specs.Inner.{unit}
 use Rattle.dots.specs.Inner.{value, coordinate, Summed, settled}
 
@@ -53,6 +53,7 @@ module _ (weights words : List ℕ) where
   unfolding to_words words_of numbers reduce
   sum_holds n = holds _ (ap to_words (sum_law n))
 
-  pub finish : {s : Sums} → Summed weights words (length words) s → Holds (settled s) (sum_to field (length words) product)
+  pub finish : {s : List Halves} → Summed weights words (length words) s → Holds (settled s) (sum_to field (length words) product)
   unfolding settled
-  finish u = rw (u.at0.is, u.at1.is, u.at2.is, u.at3.is) (sum_holds (length words))
+  finish u = rw ((u.each 0 (omega arith)).is, (u.each 1 (omega arith)).is, (u.each 2 (omega arith)).is, (u.each 3 (omega arith)).is)
+      (sum_holds (length words))

@@ -1,23 +1,18 @@
 // A sum of numbers of 64 bits, kept as the sum of their low halves and that of their high halves: it is divided once, at the end.
-ghost use Rattle.std.specs.Prelude.{◌≡◌, ◌%◌};
+ghost use Rattle.std.specs.Prelude.{◌≡◌, ◌%◌, ◌<◌, slice_index};
 ghost use Rattle.field.specs.Field.{p};
-ghost use Rattle.dots.specs.Inner.{value, Within, Grown, most_gains};
+ghost use Rattle.dots.specs.Inner.{value, Within, Grown, most_gains, at, Each, Room, EachGrown};
 
 use field::{Element, word};
 
-#[derive(Clone, Copy)]
+#[derive(Clone, Copy, Debug, Default, PartialEq, Eq)]
 pub struct Halves {
     pub lo: u64,
     pub hi: u64,
 }
 
 impl Halves {
-    pub fn none() -> Self
-        ensures { (value result ≡ 0) × Within 0 result }
-    {
-        Halves { lo: 0, hi: 0 }
-    }
-
+    #[tactic(auto, unfolding(crate::specs::Inner::value, crate::specs::Inner::Within))]
     pub fn gain(self, x: u64) -> Self
         requires { Within most_gains self }
         ensures { Grown self x result }
@@ -29,10 +24,32 @@ impl Halves {
     }
 
     // The residue of the sum.
+    #[tactic(auto, unfolding(crate::specs::Inner::Within))]
     pub fn settle(self) -> u32
         requires { Within most_gains self }
         ensures { result ≡ value self % p }
     {
         word::residue(self.lo + self.hi % (Element::MODULUS as u64) * word::UNIT)
     }
+}
+
+// N sums that hold nothing yet.
+#[tactic(auto, unfolding(crate::specs::Inner::value, crate::specs::Inner::Within))]
+pub fn none<const N: usize>() -> [Halves; N]
+    ensures { Each N (λ k h. (value h ≡ 0) × Within 0 h) result }
+{
+    [Halves::default(); N]
+}
+
+// N sums, each with what it gains.
+pub fn gain<const N: usize>(sums: [Halves; N], gains: [u64; N]) -> [Halves; N]
+    requires { Room N sums }
+    ensures { EachGrown N sums.entry gains.entry result }
+{
+    std::array::from_fn(
+        |k|
+            requires { (k < N) × Within most_gains (at sums k) }
+            ensures { Grown (at sums k) (slice_index gains k) result }
+        { sums[k].gain(gains[k]) },
+    )
 }

@@ -3,17 +3,18 @@
 
 mod halves;
 mod powers;
-mod sums;
+mod products;
 
-ghost use Rattle.std.specs.Prelude.{◌≤◌, length, get_or};
+ghost use Rattle.std.specs.Prelude.{◌≡◌, ◌+◌, ◌%◌, ◌^◌, ◌≤◌, ◌<◌, length, get_or, slice_index};
 ghost use Rattle.algebra.specs.Ring.{Ops};
 ghost use Rattle.algebra.specs.Sum.{sum_to};
-ghost use Rattle.field.specs.Field.{field, base, Holds};
+ghost use Rattle.field.specs.Field.{p, field, base, Holds};
 ghost use Rattle.table.specs.Table.{element_at};
 ghost use Rattle.dots.specs.Dots.{Dots, Pairs};
+ghost use Rattle.dots.specs.Inner.{Room, settled, value, Within, most_gains, at};
 
 use field::{Element, word};
-use powers::Powers;
+use halves::Halves;
 
 // The sum of weights[y] words[y].
 pub fn dot(weights: &[u32], words: &[u32]) -> Element
@@ -24,8 +25,10 @@ pub fn dot(weights: &[u32], words: &[u32]) -> Element
     if words.len() <= 4 {
         return dot_few(weights, words);
     }
-    let done = 4 * (words.len() / 4);
-    sums::rest(sums::fours(weights, words), weights, words, done).settle()
+    let count = words.len() / 4;
+    let fours = products::sums::<4>(halves::none(), weights, words, 0, count);
+    let all = products::sums::<1>(fours, weights, words, 4 * count, words.len() % 4);
+    settle(all)
 }
 
 // The same for at most four words: the products of a coordinate fit a u64, and are divided once.
@@ -34,35 +37,58 @@ pub fn dot_few(weights: &[u32], words: &[u32]) -> Element
     ensures { Holds result (sum_to field (length words.now)
         (λ y. field.mul (element_at weights.now y) (base (get_or words.now y 0)))) }
 {
-    let mut s0 = 0u64;
-    let mut s1 = 0u64;
-    let mut s2 = 0u64;
-    let mut s3 = 0u64;
+    let mut sums = [0u64; 4];
+    // By index: the words' places give those of the weights.
     for i in 0..words.len() {
-        s0 += sums::one(weights, words, i, 0);
-        s1 += sums::one(weights, words, i, 1);
-        s2 += sums::one(weights, words, i, 2);
-        s3 += sums::one(weights, words, i, 3);
+        let gains = products::gains::<1>(weights, words, i);
+        let more = std::array::from_fn(
+            |k|
+                requires { (k < 4) × (slice_index sums k + slice_index gains k < 2 ^ 64) }
+                ensures { result ≡ slice_index sums k + slice_index gains k }
+            { sums[k] + gains[k] },
+        );
+        sums = more;
     }
     Element {
-        c: [
-            word::residue(s0),
-            word::residue(s1),
-            word::residue(s2),
-            word::residue(s3),
-        ],
+        c: std::array::from_fn(
+            |k|
+                requires { k < 4 }
+                ensures { result ≡ slice_index sums k % p }
+            { word::residue(sums[k]) },
+        ),
     }
 }
 
-// The sum of weights[y] entries[y] over n entries of a table of elements, divided at the end alone.
+// The sum of weights[y] entries[y] over n entries of a table of elements, divided at the end alone. Its loop has the fewest instructions
+// in a function of its own.
+#[inline(never)]
 pub fn dot_ext(weights: &[u32], entries: &[u32], n: usize) -> Element
     requires { Pairs n weights.now entries.now }
     ensures { Holds result (sum_to field n
         (λ y. field.mul (element_at weights.now y) (element_at entries.now y))) }
 {
-    let mut sum = Powers::none();
+    let mut sums = halves::none();
+    // By index: an entry is four words of each table.
     for y in 0..n {
-        sum = sum.gain(table::read(weights, y), table::read(entries, y));
+        let x = table::read(weights, y);
+        let more = halves::gain(sums, powers::coefficients(x, table::read(entries, y)));
+        sums = more;
     }
-    sum.settle()
+    powers::settle(sums)
+}
+
+// The element of the sums' residues.
+#[tactic(auto, unfolding(crate::specs::Inner::settled))]
+fn settle(sums: [Halves; 4]) -> Element
+    requires { Room 4 sums }
+    ensures { result ≡ settled sums }
+{
+    Element {
+        c: std::array::from_fn(
+            |k|
+                requires { (k < 4) × Within most_gains (at sums k) }
+                ensures { result ≡ value (at sums k) % p }
+            { sums[k].settle() },
+        ),
+    }
 }

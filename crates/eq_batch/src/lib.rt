@@ -37,7 +37,7 @@ pub fn eval_eq_batch(
     if scalars.is_empty() {
         return Ok(());
     }
-    test_batch(false, n, points, scalars, out)?;
+    test_batch::<false>(n, points, scalars, out)?;
     table::clear(out);
     add_points(n, points, scalars, out);
     Ok(())
@@ -57,20 +57,19 @@ pub fn eval_eq_batch_add(
     if scalars.is_empty() {
         return Ok(());
     }
-    test_batch(true, n, points, scalars, out)?;
+    test_batch::<true>(n, points, scalars, out)?;
     add_points(n, points, scalars, out);
     Ok(())
 }
 
 #[tactic(auto, using(table::proofs::Verdicts::tests))]
-fn test_batch(
-    adding: bool,
+fn test_batch<const ADDING: bool>(
     n: usize,
     points: &[u32],
     scalars: &[u32],
     out: &[u32],
 ) -> Result<(), Refusal>
-    ensures { answer result ≡ verdict (batch_tests adding n points.now scalars.now out.now) }
+    ensures { answer result ≡ verdict (batch_tests ADDING n points.now scalars.now out.now) }
 {
     let w = scalars.len() / 4;
     table::refuse_if(table::splits(points), Refusal::Split)?;
@@ -82,7 +81,7 @@ fn test_batch(
     table::refuse_if(table::rows_differ(out, n), Refusal::Lengths)?;
     table::refuse_if(field::unreduced(points), Refusal::Unreduced)?;
     table::refuse_if(field::unreduced(scalars), Refusal::Unreduced)?;
-    table::refuse_if(adding && field::unreduced(out), Refusal::Unreduced)
+    table::refuse_if(ADDING && field::unreduced(out), Refusal::Unreduced)
 }
 
 // count is not n w. The product is not formed: it may not fit.
@@ -105,6 +104,7 @@ fn add_points(n: usize, points: &[u32], scalars: &[u32], out: &mut [u32])
         out.old out.new }
 {
     let w = scalars.len() / 4;
+    // By number: column j of the rows is no slice.
     for j in 0..w {
         let point = gather(points, n, w, j);
         add_point(&point, n, table::read(scalars, j), out);
@@ -117,6 +117,7 @@ fn gather(points: &[u32], n: usize, w: usize, j: usize) -> [u32; 80]
     ensures { Gathered n w j points.now result }
 {
     let mut point = [0u32; 80];
+    // By number, no plainer: a row's coordinate of column j is found by i.
     for i in 0..n {
         table::put(&mut point, i, table::read(points, i * w + j));
     }
@@ -128,9 +129,10 @@ fn add_point(point: &[u32], n: usize, scale: Element, out: &mut [u32])
     requires { (Coordinates n point.now × Reduced scale) × Elements 0 (2 ^ n) out.old }
     ensures { Gained 0 (2 ^ n) (scaled_at scale point.now 0 n) out.old out.new }
 {
-    let low = table::min(n, BLOCK);
+    let low = n.min(BLOCK);
     let high = n - low;
     let rows = table::rows(low);
+    // By number: h is the row of the first coordinates.
     for h in 0..table::rows(high) {
         let seed = scale.mul(point::equality::at_row(point, high, h));
         add_block(point, high, low, seed, h * rows, out);
@@ -153,6 +155,7 @@ fn add_table(summands: &[u32], n: usize, from: usize, out: &mut [u32])
     requires { Elements 0 n summands.now × Elements from n out.old }
     ensures { Gained from n (element_at summands.now) out.old out.new }
 {
+    // By number: nothing is known of a slice that `chunks_exact_mut` lent.
     for i in 0..n {
         let sum = table::get(out, from + i).add(table::get(summands, i));
         table::put(out, from + i, sum);

@@ -7,7 +7,6 @@ use Rattle.algebra.specs.Residue.{Residue, reduce, residues}
 use Rattle.algebra.specs.Quartic.{Quartic, quartic, constant}
 use Rattle.algebra.specs.Words.{words_of, numbers, unreduced}
 use Rattle.field.specs.declared.Element.{Element}
-use Rattle.field.specs.declared.Value.{Value}
 
 abbrev pub p : ℕ
 p = 2013265921
@@ -52,7 +51,3 @@ pub record Holds (e : Element) (x : Ext) : Type 0 where
 -- R holds at each place of e's word there
 pub record ByWord (R : ℕ → ℕ → Type 0) (e : Element) : Type 0 where
   pub each : R 0 (at e 0) × R 1 (at e 1) × R 2 (at e 2) × R 3 (at e 3)
-
--- an element as an answer holds it
-unfoldable pub value_of : Element → Value
-value_of e = record { c0 = at e 0; c1 = at e 1; c2 = at e 2; c3 = at e 3 }

@@ -12,7 +12,7 @@ pub mod word;
 ghost use Rattle.std.specs.Prelude.{◌≡◌, ◌<◌, ◌||◌, nat_le, slice_index};
 ghost use Rattle.algebra.specs.Ring.{Ops, minus};
 ghost use Rattle.algebra.specs.Words.{unreduced};
-ghost use Rattle.field.specs.Field.{p, Reduced, field, base, at, from_words, value_of, Holds, ByWord};
+ghost use Rattle.field.specs.Field.{p, Reduced, field, base, at, from_words, Holds, ByWord};
 
 use std::fmt;
 
@@ -20,15 +20,6 @@ use std::fmt;
 #[derive(Clone, Copy, Debug, PartialEq, Eq)]
 pub struct Element {
     pub c: [u32; 4],
-}
-
-// An element as an answer holds it: an enum holds no array.
-#[derive(Clone, Copy, Debug, PartialEq, Eq)]
-pub struct Value {
-    pub c0: u32,
-    pub c1: u32,
-    pub c2: u32,
-    pub c3: u32,
 }
 
 impl Element {
@@ -144,18 +135,6 @@ impl Element {
                     ensures { F.post f (slice_index self.c i) (slice_index other.c i) result }
                 { f(self.c[i], other.c[i]) },
             ),
-        }
-    }
-
-    #[tactic(auto, unfolding(crate::specs::Field::value_of))]
-    pub fn value(self) -> Value
-        ensures { result ≡ value_of self }
-    {
-        Value {
-            c0: self.c[0],
-            c1: self.c[1],
-            c2: self.c[2],
-            c3: self.c[3],
         }
     }
 }

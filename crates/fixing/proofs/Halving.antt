@@ -1,4 +1,4 @@
--- A table of two halves made one by a rule: what the loop asks of the pairs and of what is made of them, and what it leaves. Assumes nothing.
+-- Two halves made one by a rule: what the loop asks of the pairs and of what is made of them, and what it leaves. Assumes nothing.
 use Rattle.std.proofs.Common.{◌≡◌, refl, ap, ◌∙◌, ℕ, ◌*◌, ◌≤◌, ◌<◌, List, arith}
 use Rattle.field.specs.Field.{Ext, to_words, from_words, Reduced, Holds}
 use Rattle.field.specs.declared.Element.{Element}

@@ -98,6 +98,7 @@ fn spell(line: &[u8], bytes: &mut [u8])
     requires { Spells line.now bytes.old }
     ensures { bytes.new ≡ spelled line.now }
 {
+    // By number, no plainer: a byte has the digits 2 i and 2 i + 1.
     for i in 0..bytes.len() {
         bytes[i] = 16 * digit(line[2 * i]) + digit(line[2 * i + 1]);
     }
@@ -198,13 +199,14 @@ fn word_list(bytes: &[u8], count: usize) -> Words
     ensures { result ≡ words_at count bytes.now 2 }
 {
     let mut words = Words::new();
+    // By number, no plainer: a word is read by where it stands, as the other fields are.
     for i in 0..count {
         words.push(word(bytes, 2 + 4 * i));
     }
     words
 }
 
-// Room for the bytes of a frame.
+// Room for the bytes of a frame. In a function of its own, or the literal stands in each goal of `decode`.
 fn byte_room() -> [u8; MOST_BYTES]
     ensures { result ≡ replicate 66 0 }
 {
@@ -224,6 +226,7 @@ pub fn digits(ws: &[u32], text: &mut [u8])
     requires { length text.old ≡ 8 * length ws.now }
     ensures { text.new ≡ word_digits ws.now }
 {
+    // By number: nothing is known of a slice that `chunks_exact_mut` lent.
     for i in 0..ws.len() {
         put_word(text, 8 * i, ws[i]);
     }

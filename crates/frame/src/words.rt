@@ -51,6 +51,7 @@ impl Words {
     }
 }
 
+// In a function of its own, or the literal stands in each goal.
 fn word_room() -> [u32; MOST_WORDS]
     ensures { result ≡ replicate 16 0 }
 {

@@ -1,22 +1,13 @@
 -- Element operations. Assumes nothing.
-use Rattle.std.specs.Prelude.{◌≡◌, ℕ, ◌||◌, true, false, cond, List, [], ◌∷◌}
+use Rattle.std.specs.Prelude.{ℕ, ◌||◌, cond, List, [], ◌∷◌}
 use Rattle.algebra.specs.Ring.{minus}
 use Rattle.algebra.specs.Words.{words_of, unreduced}
 use Rattle.multilinear.specs.Beside.{power}
 use Rattle.field.specs.Field.{p, Ext, field, base, from_words, at}
 use Rattle.field.specs.declared.Element.{Element}
 use Rattle.table.specs.Refusals.{leaves}
-
--- the operations on two elements; `MulRepeat n` is a product with a power
-pub data Operation : Type 0 where
-  Add : Operation
-  Sub : Operation
-  Mul : Operation
-  Neg : Operation
-  Double : Operation
-  MulBase : Operation
-  FromBase : Operation
-  MulRepeat : ℕ → Operation
+use Rattle.host.specs.declared.elements.Operation.{Operation}
+use Rattle.host.specs.declared.elements.Operation.TheVariants.{Add, Sub, Mul, Neg, Double, MulBase, FromBase, MulRepeat}
 
 -- the words of a base word as an element
 abbrev pub single : ℕ → List ℕ
@@ -40,8 +31,3 @@ element_answer x y = cond (unreduced p x || unreduced p y) 5 0
 -- the operation on the words x and y: out becomes its element's words
 unfoldable pub element_out : Operation → List ℕ → List ℕ → List ℕ → List ℕ
 element_out o x y out = leaves (element_answer x y) (words_of (operated o (record { c = x }) (record { c = y }))) out
-
--- a call on the words x and y, whose operation's results are those of `gives`: its number, and what is in out after it
-pub record Applied (gives : Element → Element → Element → Type 0) (x y out : List ℕ) (number : ℕ) (after : List ℕ) : Type 0 where
-  pub refused : unreduced p x || unreduced p y ≡ true → (number ≡ 5) × (after ≡ out)
-  pub done : unreduced p x || unreduced p y ≡ false → (number ≡ 0) × gives (record { c = x }) (record { c = y }) (record { c = after })

@@ -1,6 +1,6 @@
 // The operations for a host program that compares and measures them: words in slices, and 0 or the refusal's number. A scale is
 // four numbers, as in the ward's calls; an operand or an answer that is one element is an array of four words.
-#![tactic(auto, using(crate::proofs::Applying::applying))]
+#![tactic(auto)]
 
 mod answers;
 mod elements;
@@ -13,9 +13,11 @@ ghost use Rattle.next.specs.Next.{eval_eq_answer, eval_next_answer};
 ghost use Rattle.poly.specs.Poly.{new_answer, new_out, next_out};
 ghost use Rattle.eq_batch.specs.Batch.{batch_answer, set_out, add_out};
 ghost use Rattle.host_answers.specs.Host.{element_of, answered, shown};
-ghost use Rattle.host.specs.Elements.Operation.{Add, Sub, Mul, Neg, Double, MulBase, FromBase, MulRepeat};
+ghost use Rattle.host.specs.declared.elements.Operation.TheVariants.{Add, Sub, Mul, Neg, Double};
+ghost use Rattle.host.specs.declared.elements.Operation.TheVariants.{MulBase, FromBase, MulRepeat};
 ghost use Rattle.host.specs.Elements.{single, element_answer, element_out};
 
+use elements::Operation;
 use field::Element;
 
 #[unsafe(no_mangle)]
@@ -23,7 +25,7 @@ pub extern "C" fn host_add(x: &[u32; 4], y: &[u32; 4], out: &mut [u32; 4]) -> u3
     ensures value { result ≡ element_answer x.now y.now }
     ensures out_after { out.new ≡ element_out Add x.now y.now out.old }
 {
-    elements::apply(|a, b| a.add(b), x, y, out)
+    elements::apply(Operation::Add, x, y, out)
 }
 
 #[unsafe(no_mangle)]
@@ -31,7 +33,7 @@ pub extern "C" fn host_sub(x: &[u32; 4], y: &[u32; 4], out: &mut [u32; 4]) -> u3
     ensures value { result ≡ element_answer x.now y.now }
     ensures out_after { out.new ≡ element_out Sub x.now y.now out.old }
 {
-    elements::apply(|a, b| a.sub(b), x, y, out)
+    elements::apply(Operation::Sub, x, y, out)
 }
 
 #[unsafe(no_mangle)]
@@ -39,7 +41,7 @@ pub extern "C" fn host_mul(x: &[u32; 4], y: &[u32; 4], out: &mut [u32; 4]) -> u3
     ensures value { result ≡ element_answer x.now y.now }
     ensures out_after { out.new ≡ element_out Mul x.now y.now out.old }
 {
-    elements::apply(|a, b| a.mul(b), x, y, out)
+    elements::apply(Operation::Mul, x, y, out)
 }
 
 #[unsafe(no_mangle)]
@@ -47,7 +49,7 @@ pub extern "C" fn host_neg(x: &[u32; 4], out: &mut [u32; 4]) -> u32
     ensures value { result ≡ element_answer x.now x.now }
     ensures out_after { out.new ≡ element_out Neg x.now x.now out.old }
 {
-    elements::apply(|a, _| a.neg(), x, x, out)
+    elements::apply(Operation::Neg, x, x, out)
 }
 
 #[unsafe(no_mangle)]
@@ -55,7 +57,7 @@ pub extern "C" fn host_double(x: &[u32; 4], out: &mut [u32; 4]) -> u32
     ensures value { result ≡ element_answer x.now x.now }
     ensures out_after { out.new ≡ element_out Double x.now x.now out.old }
 {
-    elements::apply(|a, _| a.double(), x, x, out)
+    elements::apply(Operation::Double, x, x, out)
 }
 
 #[unsafe(no_mangle)]
@@ -63,7 +65,8 @@ pub extern "C" fn host_mul_base(x: &[u32; 4], word: u32, out: &mut [u32; 4]) -> 
     ensures value { result ≡ element_answer x.now (single word) }
     ensures out_after { out.new ≡ element_out MulBase x.now (single word) out.old }
 {
-    elements::apply(|a, b| a.mul_base(b.c[0]), x, &[word, 0, 0, 0], out)
+    let y = [word, 0, 0, 0];
+    elements::apply(Operation::MulBase, x, &y, out)
 }
 
 #[unsafe(no_mangle)]
@@ -71,8 +74,8 @@ pub extern "C" fn host_from_base(word: u32, out: &mut [u32; 4]) -> u32
     ensures value { result ≡ element_answer (single word) (single word) }
     ensures out_after { out.new ≡ element_out FromBase (single word) (single word) out.old }
 {
-    let x = [word, 0, 0, 0];
-    elements::apply(|a, _| Element::from_base(a.c[0]), &x, &x, out)
+    let y = [word, 0, 0, 0];
+    elements::apply(Operation::FromBase, &y, &y, out)
 }
 
 // x y^times, product by product: a chain to measure.
@@ -81,7 +84,7 @@ pub extern "C" fn host_mul_repeat(x: &[u32; 4], y: &[u32; 4], times: u64, out: &
     ensures value { result ≡ element_answer x.now y.now }
     ensures out_after { out.new ≡ element_out (MulRepeat times) x.now y.now out.old }
 {
-    elements::apply(|a, b| elements::chain(a, b, times), x, y, out)
+    elements::apply(Operation::MulRepeat(times), x, y, out)
 }
 
 #[unsafe(no_mangle)]

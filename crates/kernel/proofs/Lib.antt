@@ -1,2 +1,1 @@
-mod Columns
-mod Quads
+mod Weighing

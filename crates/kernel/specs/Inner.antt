@@ -1,24 +1,26 @@
 -- What the inner functions take and give. No operation that users call cites it. Assumes nothing.
-use Rattle.std.specs.Prelude.{ℕ, ◌+◌, ◌*◌, ◌<◌, List, get_or}
-use Rattle.field.specs.Field.{p, at}
+use Rattle.std.specs.Prelude.{◌≡◌, ℕ, zero, suc, ◌+◌, ◌*◌, ◌<◌, List, length, get_or}
+use Rattle.field.specs.Field.{p, field, base, from_words, at, Holds}
+use Rattle.field.specs.Inner.{unit}
 use Rattle.field.specs.declared.Element.{Element}
-use Rattle.kernel.specs.declared.steps.Four.{Four}
+use Rattle.kernel.specs.Kernel.{weight_at}
+use Rattle.kernel.specs.declared.steps.Strided.{Strided}
 
--- each of the four is below p
-pub record Small (x : Four) : Type 0 where
-  pub small0 : x.x0 < p
-  pub small1 : x.x1 < p
-  pub small2 : x.x2 < p
-  pub small3 : x.x3 < p
+-- the n words are there, and below p
+pub record There (n : ℕ) (words : List ℕ) (s : Strided) : Type 0 where
+  pub within : (t : ℕ) → t < n → t * s.apart + s.first < length words
+  pub below : (t : ℕ) → get_or words t 0 < p
 
--- coordinate k of four elements
-unfoldable pub column : Element → Element → Element → Element → ℕ → Four
-column w0 w1 w2 w3 k = record { x0 = at w0 k; x1 = at w1 k; x2 = at w2 k; x3 = at w3 k }
+-- word t
+abbrev pub word_at : List ℕ → Strided → ℕ → ℕ
+word_at words s t = get_or words (t * s.apart + s.first) 0
 
--- n and the four products of w and x
-abbrev pub plus_products : ℕ → Four → Four → ℕ
-plus_products n w x = n + w.x0 * x.x0 + w.x1 * x.x1 + w.x2 * x.x2 + w.x3 * x.x3
+-- coordinate k of the first n weights, each times its word
+unfoldable pub products : List Element → ℕ → (ℕ → ℕ) → ℕ → ℕ
+products weights k word zero = 0
+products weights k word (suc n) = products weights k word n + at (weight_at weights n) k * word n
 
--- the words of place i, where a place has four
-abbrev pub quad_at : List ℕ → ℕ → Four
-quad_at ws i = record { x0 = get_or ws (4 * i) 0; x1 = get_or ws (4 * i + 1) 0; x2 = get_or ws (4 * i + 2) 0; x3 = get_or ws (4 * i + 3) 0 }
+-- the first n of vs are those of ws times 2³²
+pub record Raised (n : ℕ) (ws vs : List Element) : Type 0 where
+  pub len : length vs ≡ length ws
+  pub each : (t : ℕ) → t < n → Holds (weight_at vs t) (field.mul (from_words (weight_at ws t)) (base unit))

@@ -25,8 +25,7 @@ use Rattle.table.proofs.Laws.{elements_length}
 use Rattle.table.proofs.Gaining.{none, turn, gained_as, blocks, widened}
 use Rattle.table.proofs.Parts.{after, after_length, after_word, after_below, part_below}
 use Rattle.table.proofs.Placed.{placed_before, placed_word, placed_after, placed_none}
-use Rattle.kernel.specs.declared.Weights.{Weights}
-use Rattle.kernel.specs.Kernel.{Groups, two_words, four_words}
+use Rattle.kernel.specs.Kernel.{Groups, weighed, words_at}
 use Rattle.weigh.specs.Weigh.{Block, Parts, block_sum}
 use Rattle.moved.specs.declared.Terms.{Terms}
 use Rattle.moved.specs.declared.places.Shape.{Shape}
@@ -36,7 +35,7 @@ use Rattle.moved.specs.Moved.{Adds, moved_by}
 use Rattle.moved.specs.Weighed.{weight_of, Weighed}
 use Rattle.moved.specs.Inner.{Blocks, Reached, Wholes, GainedIn, Cuts}
 use Rattle.moved.proofs.Moving.{skip_small, again}
-use Rattle.moved.proofs.PlaceSums.{cut_fits, cut_row, block_sum_lem, row_sum, two_words_lem, four_words_lem}
+use Rattle.moved.proofs.PlaceSums.{cut_fits, cut_row, block_sum_lem, row_sum, weighed_lem}
 
 -- the places from `from` to before i gained, of those to before `to`
 pub record Done (g : ℕ → Ext) (from to : ℕ) (ws w : List ℕ) (i : ℕ) : Type 0 where
@@ -313,26 +312,12 @@ module _ {shape : Shape} {point block piece out : List ℕ} (b : Blocks shape po
           (λ t. base (placed shape.taken piece t)) i) s
 
       module _ {range : Range} (w : Wholes shape range piece) {x : ℕ} (ex : x ≡ range.from * rows - shape.taken) {out' : List ℕ} where
-        pub pairs : rows ≡ 2 → {w0 w1 : Element} → Holds w0 (weight_of block skip 0) → Holds w1 (weight_of block skip 1)
-            → Gained range.from (range.to - range.from) (two_words w0 w1 (after x piece)) out out'
+        pub places_gained : {n : ℕ} {weights : List Element} → rows ≡ n → n ≤ 4 → Weighed n block skip weights
+            → Gained range.from (range.to - range.from) (words_at n weights (after x piece)) out out'
             → GainedIn shape range point piece out out'
-        pairs e h0 h1 d =
+        places_gained {n} {weights} e few h d =
             gained_as _ d λ j l.
-            let q : j * rows ≡ j * 2 = ap (λ n. j * n) e in
-            rw (word_is w ex (2 * j) j 0 (omega (arith, q)), word_is w ex (2 * j + 1) j 1 (omega (arith, q)))
-            (two_words_lem block skip (λ z. placed shape.taken piece ((range.from + j) * rows + z)) h0 h1
-            ∙ few_is e (omega arith) (range.from + j))
-
-        pub quads : rows ≡ 4 → {v : Weights} → Weighed block skip v
-            → Gained range.from (range.to - range.from) (four_words v (after x piece)) out out' → GainedIn shape range point piece out out'
-        quads e h d =
-            gained_as _ d λ j l.
-            let q : j * rows ≡ j * 4 = ap (λ n. j * n) e in
-            rw (
-              word_is w ex (4 * j) j 0 (omega (arith, q)),
-              word_is w ex (4 * j + 1) j 1 (omega (arith, q)),
-              word_is w ex (4 * j + 2) j 2 (omega (arith, q)),
-              word_is w ex (4 * j + 3) j 3 (omega (arith, q)),
-            )
-            (four_words_lem block skip (λ z. placed shape.taken piece ((range.from + j) * rows + z)) h
-            ∙ few_is e (omega arith) (range.from + j))
+            let q : n * j ≡ j * rows = mul_comm n j ∙ ap (λ m. j * m) (sym e) in
+            ap (weighed n weights) (λ i z. word_is w ex (n * j + z) j z (ap (λ m. m + z) q) i)
+            ∙ weighed_lem h (λ z. placed shape.taken piece ((range.from + j) * rows + z))
+            ∙ few_is e few (range.from + j)

@@ -9,7 +9,7 @@ use lib.Dec.{ltb}
 use lib.ListN.{length, take, drop}
 use borrow.Author.Tests.{lt-ltb, le-ltb}
 use Rattle.algebra.specs.Sum.{sum_to}
-use Rattle.algebra.proofs.Ring.{zero_add, mul_zero}
+use Rattle.algebra.proofs.Ring.{mul_zero}
 use Rattle.algebra.proofs.Sums.{sum_ext}
 use Rattle.multilinear.specs.declared.Side.TheVariants.{Suffix}
 use Rattle.multilinear.specs.Equality.{eq_at}
@@ -19,15 +19,15 @@ use Rattle.multilinear.specs.Folds.{weight_at, fold_at}
 use Rattle.multilinear.specs.Inner.{moved_at}
 use Rattle.multilinear.specs.Values.{value_at}
 use Rattle.multilinear.proofs.Folds.{moved_value, moved_plain, moved_shifted}
-use Rattle.field.specs.Field.{Ext, field, base, from_words, Holds}
+use Rattle.field.specs.Field.{Ext, field, base, Reduced}
 use Rattle.field.specs.declared.Element.{Element}
 use Rattle.field.proofs.Laws.{field_ring, base_zero, read_as}
 use Rattle.table.specs.Table.{element_at, elements, placed}
 use Rattle.table.proofs.Laws.{elements_length}
 use Rattle.table.proofs.Parts.{after_is, part_length}
 use Rattle.table.proofs.Placed.{placed_after, placed_take, placed_further}
-use Rattle.kernel.specs.declared.Weights.{Weights}
-use Rattle.kernel.specs.Kernel.{two_products, four_products}
+use Rattle.std.proofs.lemmas.List.Elements.{All-from_get_or}
+use Rattle.kernel.specs.Kernel.{Weights, weighed}
 use Rattle.weigh.specs.Weigh.{Block, block_sum}
 use Rattle.weigh.proofs.Weighing.{weighed_words}
 use Rattle.moved.specs.declared.places.Span.{Span}
@@ -154,27 +154,11 @@ module _ (k : ℕ) (point : List ℕ) (scale : Ext) (inner skip : ℕ) (word : �
         go (suc zero) l = rows_sum Shifted 1 weight_before ∙ sym (moved_shifted field_ring Suffix inner zs scale (λ t. base (word t)) i)
         go (suc (suc s)) l = absurd (omega arith)
 
--- two products, and four
-module _ (f : ℕ → Ext) where
-  two_sum : field.add (f 0) (f 1) ≡ sum_to field 2 f
-  unfolding sum_to
-  two_sum = ap (λ x. field.add x (f 1)) (sym (zero_add field_ring (f 0)))
+-- the words of n rows by their weights
+module _ {n : ℕ} {block : List ℕ} {skip : ℕ} {weights : List Element} (h : Weighed n block skip weights) where
+  pub weighed_lem : (x : ℕ → ℕ) → weighed n weights x ≡ sum_to field n (λ y. field.mul (weight_of block skip y) (base (x y)))
+  unfolding weighed
+  weighed_lem x = sum_ext field_ring n _ _ (λ y b. ap (λ w. field.mul w (base (x y))) (read_as _ (h.each y b)))
 
-  four_sum : field.add (field.add (field.add (f 0) (f 1)) (f 2)) (f 3) ≡ sum_to field 4 f
-  unfolding sum_to
-  four_sum = ap (λ x. field.add (field.add x (f 2)) (f 3)) two_sum
-
-module _ (block : List ℕ) (skip : ℕ) (x : ℕ → ℕ) where
-  abbrev term : ℕ → Ext
-  term y = field.mul (weight_of block skip y) (base (x y))
-
-  pub two_words_lem : {w0 w1 : Element} → Holds w0 (weight_of block skip 0) → Holds w1 (weight_of block skip 1)
-      → two_products (from_words w0) (from_words w1) (x 0) (x 1) ≡ sum_to field 2 term
-  unfolding two_products
-  two_words_lem h0 h1 = rw (read_as _ h0, read_as _ h1) (two_sum term)
-
-  pub four_words_lem : {w : Weights} → Weighed block skip w
-      → four_products (from_words w.w0) (from_words w.w1) (from_words w.w2) (from_words w.w3) (x 0) (x 1) (x 2) (x 3)
-      ≡ sum_to field 4 term
-  unfolding four_products
-  four_words_lem h = rw (read_as _ h.at0, read_as _ h.at1, read_as _ h.at2, read_as _ h.at3) (four_sum term)
+  pub weights_held : n ≤ 4 → Weights n weights
+  weights_held few = record { few = few; below = All-from_get_or Reduced weights _ (λ y b. (h.each y (omega (arith, h.len))).below) }

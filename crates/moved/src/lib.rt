@@ -18,7 +18,6 @@ ghost use Rattle.moved.specs.Moved.{Adds, moved_by};
 ghost use Rattle.moved.specs.Weighed.{weight_of, Weighed};
 
 use field::Element;
-use kernel::Weights;
 use multilinear::{Side, Weight};
 
 // What the terms of a place's sum are made of: 2^k rows of `inner` words, and the rows' weights.
@@ -58,22 +57,22 @@ pub fn skip_of(weight: Weight) -> usize
 {
     match weight {
         Weight::Plain => 0,
-        Weight::Shifted => 1,
-        Weight::Next => 1,
+        Weight::Shifted | Weight::Next => 1,
     }
 }
 
-// The weights of four rows.
-pub fn weights_of(block: &[u32], skip: usize) -> Weights
-    requires { (16 ≤ length block.now) × (unreduced p block.now ≡ false) }
-    ensures { Weighed block.now skip result }
+// The weights of N rows.
+pub fn weights_of<const N: usize>(block: &[u32], skip: usize) -> [Element; N]
+    requires few { N ≤ 4 }
+    requires block { (4 * N ≤ length block.now) × (unreduced p block.now ≡ false) }
+    ensures { Weighed N block.now skip result }
 {
-    Weights {
-        w0: weight_of(block, skip, 0),
-        w1: weight_of(block, skip, 1),
-        w2: weight_of(block, skip, 2),
-        w3: weight_of(block, skip, 3),
+    let mut weights = [Element::zero(); N];
+    // By index: the row's number says which weight it is.
+    for y in 0..N {
+        weights[y] = weight_of(block, skip, y);
     }
+    weights
 }
 
 // The weight of row y: what the block's table has `skip` rows before.
@@ -91,5 +90,5 @@ fn weight_of(block: &[u32], skip: usize, y: usize) -> Element
 fn before(taken: usize, len: usize, t: usize) -> usize
     ensures { result ≡ min len (t - taken) }
 {
-    table::min(len, table::remaining(t, taken))
+    usize::min(len, t.saturating_sub(taken))
 }

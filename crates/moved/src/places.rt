@@ -45,7 +45,7 @@ pub fn by_places(terms: Terms, point: &[u32], taken: usize, piece: &[u32], out: 
     }
     let scale = terms.scale;
     if piece.len() < SHORT {
-        let low = table::min(terms.k, weigh::SMALL_BLOCK);
+        let low = usize::min(terms.k, weigh::SMALL_BLOCK);
         let block = weigh::small_block_of(point, terms.k - low, low, scale);
         add_places(Shape { terms, low, taken }, point, &block, piece, out);
     } else {
@@ -60,12 +60,12 @@ fn block_variables(k: usize, len: usize) -> usize
     ensures { (result ≤ k) × (min k 2 ≤ result) × (result ≤ 8) }
 {
     if len < 1024 {
-        return table::min(k, 4);
+        return usize::min(k, 4);
     }
     if len < 16384 {
-        return table::min(k, 6);
+        return usize::min(k, 6);
     }
-    table::min(k, 8)
+    usize::min(k, 8)
 }
 
 // The first place, the whole ones after it, and the last.
@@ -113,6 +113,7 @@ fn add_range(
     let terms = shape.terms;
     let weight = terms.weight;
     let skip = crate::skip_of(weight);
+    // By index: a turn takes an element of out, and words that stand elsewhere in the piece.
     for i in range.from..range.to {
         let start = i * rows + skip;
         let words = cut(shape.taken, piece.len(), start, i * rows + rows);
@@ -141,7 +142,7 @@ fn cut(taken: usize, len: usize, start: usize, stop: usize) -> Span
     Span {
         a: crate::before(taken, len, start),
         b: crate::before(taken, len, stop),
-        from: table::remaining(taken, start),
+        from: taken.saturating_sub(start),
     }
 }
 
@@ -164,17 +165,11 @@ fn add_whole(
     let a = range.from * rows - shape.taken;
     let n = range.to - range.from;
     if rows == 2 {
-        let w0 = crate::weight_of(block, skip, 0);
-        let w1 = crate::weight_of(block, skip, 1);
-        kernel::gain_pairs(out, range.from, n, &piece[a..], w0, w1);
+        let weights = crate::weights_of::<2>(block, skip);
+        kernel::gain_groups(out, range.from, &piece[a..], n, weights);
     } else if rows == 4 {
-        kernel::gain_quads(
-            out,
-            range.from,
-            n,
-            &piece[a..],
-            crate::weights_of(block, skip),
-        );
+        let weights = crate::weights_of::<4>(block, skip);
+        kernel::gain_groups(out, range.from, &piece[a..], n, weights);
     } else {
         add_range(shape, range, point, block, piece, out);
     }

@@ -11,10 +11,8 @@ pub fn by_rows(terms: Terms, point: &[u32], taken: usize, piece: &[u32], out: &m
     ensures { Gained 0 terms.inner (moved_by Prefix terms point.now taken piece.now)
         out.old out.new }
 {
-    let weight = terms.weight;
-    let scale = terms.scale;
-    let first = crate::skip_of(weight) * terms.inner;
+    let first = crate::skip_of(terms.weight) * terms.inner;
     let early = crate::before(taken, piece.len(), first);
-    let from = table::remaining(taken + early, first);
-    scatter::scatter(&piece[early..], from, point, scale, out);
+    let from = (taken + early).saturating_sub(first);
+    scatter::scatter(&piece[early..], from, point, terms.scale, out);
 }

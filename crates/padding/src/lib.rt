@@ -27,8 +27,8 @@ pub fn keep(inner: usize, taken: usize, words: &[u32], last: &mut [u32])
     ensures { last.new ≡ kept inner taken words.now last.old }
 {
     let mut place = taken % inner;
-    for j in 0..words.len() {
-        last[place] = words[j];
+    for word in words {
+        last[place] = *word;
         place = following(place, inner);
     }
 }
@@ -49,8 +49,7 @@ pub fn pad(plan: Plan, taken: usize, last: &[u32], out: &mut [u32])
     requires { Pads plan taken last.now out.old }
     ensures { out.new ≡ gained_by plan taken (missing_words plan taken last.now) out.old }
 {
-    let side = plan.side;
-    match side {
+    match plan.side {
         Side::Prefix => repeat_row(plan, taken, last, out),
         Side::Suffix => {}
     }
@@ -77,6 +76,7 @@ fn spread(last: &[u32], from: usize, to: usize, weight: Element, out: &mut [u32]
     ensures { Gained from (to - from) (λ i. field.mul (from_words weight) (base (get_or last.now (from + i) 0)))
         out.old out.new }
 {
+    // By index: a turn takes a word of last and an element of out.
     for i in from..to {
         let word = last[i];
         table::put(out, i, table::read(out, i).add(weight.mul_base(word)));
@@ -100,15 +100,14 @@ fn tail(plan: Plan, row: usize) -> Element
     requires { Sound plan × (row < rows plan) }
     ensures { Holds result (tail_of plan row) }
 {
-    let weight = plan.weight;
     let point = plan.coordinates;
     let k = plan.k;
-    match weight {
+    match plan.weight {
         Weight::Plain => point::equality::from_row(&point, k, row),
         Weight::Shifted => {
-            let sum = point::equality::from_row(&point, k, table::remaining(row, 1));
+            let sum = point::equality::from_row(&point, k, row.saturating_sub(1));
             sum.sub(point::equality::at_row(&point, k, table::rows(k) - 1))
         }
-        Weight::Next => point::equality::from_row(&point, k, table::remaining(row, 1)),
+        Weight::Next => point::equality::from_row(&point, k, row.saturating_sub(1)),
     }
 }

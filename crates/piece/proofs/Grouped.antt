@@ -1,6 +1,7 @@
 -- Whole places of two words or four, set from their words by the weights of their rows. Assumes nothing.
 use mathlib.Core.Path.{◌≡◌, sym, ap, ap₂, ◌∙◌}
-use Prim.Native.Nat.{ℕ, ◌+◌, ◌*◌, ◌^◌}
+use Prim.Native.Nat.{ℕ, ◌+◌, ◌*◌}
+use native.Mathlib.Nat.{mul_comm}
 use native.Mathlib.Omega.{arith}
 use mathlib.Core.List.{List}
 use lib.ListN.{length, get_or}
@@ -9,15 +10,15 @@ use Rattle.multilinear.specs.declared.Side.TheVariants.{Suffix}
 use Rattle.multilinear.specs.Inner.{skip_of, moved_at}
 use Rattle.multilinear.proofs.Weighed.{moved_own}
 use Rattle.field.specs.Field.{field, base, from_words}
+use Rattle.field.specs.declared.Element.{Element}
 use Rattle.field.proofs.Laws.{field_ring}
 use Rattle.table.specs.Table.{table_words}
 use Rattle.table.proofs.Laws.{table_ext}
-use Rattle.kernel.specs.declared.Weights.{Weights}
-use Rattle.kernel.specs.Kernel.{Groups, two_words, four_words}
+use Rattle.kernel.specs.Kernel.{Groups, weighed, words_at}
 use Rattle.weigh.specs.Weigh.{Block}
 use Rattle.moved.specs.Weighed.{weight_of, Weighed}
 use Rattle.moved.proofs.Moving.{skip_small}
-use Rattle.moved.proofs.PlaceSums.{row_sum, two_words_lem, four_words_lem}
+use Rattle.moved.proofs.PlaceSums.{row_sum, weighed_lem}
 use Rattle.plan.specs.declared.Plan.{Plan}
 use Rattle.plan.specs.Plan.{rows, places, coordinates_of, place_of, fold_of}
 use Rattle.plan.specs.Sound.{Fills}
@@ -49,21 +50,9 @@ module _ {plan : Plan} {table out : List ℕ} (f : Fills plan table out) {n : �
         ∙ ap (field.add _) (sym (no_own plan.side plan.weight (places plan) (coordinates_of plan) _ (λ t. base (get_or table t 0)) i u))
         ∙ moved_own field_ring plan.side plan.weight (places plan) (coordinates_of plan) _ (λ t. base (get_or table t 0)) i
 
-    module _ {w : Weights} (h : Weighed block skip w) {out' : List ℕ} where
-      pub pairs_fold : plan.k ≡ 1 → out' ≡ table_words n (two_words w.w0 w.w1 table) → out' ≡ fold_of plan table
-      pairs_fold e d =
-          d ∙ rw q
-          (table_ext (places plan) _ _ λ i l.
-          let q0 : 2 * i ≡ i * 2 + 0 = omega arith in
-          let q1 : 2 * i + 1 ≡ i * 2 + 1 = omega arith in
-          rw (q1, q0) (two_words_lem block skip (word 2 i) h.at0 h.at1) ∙ place_is (ap (λ k. 2 ^ k) (sym e)) i)
-
-      pub quads_fold : plan.k ≡ 2 → out' ≡ table_words n (four_words w table) → out' ≡ fold_of plan table
-      quads_fold e d =
-          d ∙ rw q
-          (table_ext (places plan) _ _ λ i l.
-          let q0 : 4 * i ≡ i * 4 + 0 = omega arith in
-          let q1 : 4 * i + 1 ≡ i * 4 + 1 = omega arith in
-          let q2 : 4 * i + 2 ≡ i * 4 + 2 = omega arith in
-          let q3 : 4 * i + 3 ≡ i * 4 + 3 = omega arith in
-          rw (q1, q2, q3, q0) (four_words_lem block skip (word 4 i) h) ∙ place_is (ap (λ k. 2 ^ k) (sym e)) i)
+    pub groups_fold : {m : ℕ} {weights : List Element} → m ≡ rows plan → Weighed m block skip weights → {out' : List ℕ}
+        → out' ≡ table_words n (words_at m weights table) → out' ≡ fold_of plan table
+    groups_fold {m} {weights} e h d =
+        d ∙ rw q
+        (table_ext (places plan) _ _ λ i l.
+        ap (weighed m weights) (λ j t. get_or table (mul_comm m i j + t) 0) ∙ weighed_lem h (word m i) ∙ place_is e i)

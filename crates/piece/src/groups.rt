@@ -16,15 +16,14 @@ pub fn by_groups(plan: Plan, table: &[u32], out: &mut [u32])
         crate::sections::by_sections(plan, table, out);
         return;
     }
-    let weight = plan.weight;
     let scale = plan.scale;
     let coordinates = plan.coordinates;
     let block = weigh::small_block_of(&coordinates, 0, plan.k, scale);
-    let weights = moved::weights_of(&block, moved::skip_of(weight));
+    let skip = moved::skip_of(plan.weight);
     let n = table::rows(plan.n - plan.k);
     if plan.k == 1 {
-        kernel::set_pairs(out, n, table, weights.w0, weights.w1);
+        kernel::set_groups(out, table, n, moved::weights_of::<2>(&block, skip));
     } else {
-        kernel::set_quads(out, n, table, weights);
+        kernel::set_groups(out, table, n, moved::weights_of::<4>(&block, skip));
     }
 }

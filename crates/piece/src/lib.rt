@@ -54,13 +54,10 @@ pub fn fold(plan: Plan, table: &[u32], out: &mut [u32])
     requires { Fills plan table.now out.old }
     ensures { out.new ≡ fold_of plan table.now }
 {
-    let side = plan.side;
-    let weight = plan.weight;
-    match side {
+    match plan.side {
         Side::Prefix => fold_whole(plan, table, out),
-        Side::Suffix => match weight {
-            Weight::Plain => groups::by_groups(plan, table, out),
-            Weight::Shifted => groups::by_groups(plan, table, out),
+        Side::Suffix => match plan.weight {
+            Weight::Plain | Weight::Shifted => groups::by_groups(plan, table, out),
             Weight::Next => sections::by_sections(plan, table, out),
         },
     }

@@ -28,10 +28,8 @@ pub fn add_own(
     ensures { Gained 0 terms.inner (own_by side terms point.now taken piece.now)
         out.old out.new }
 {
-    let weight = terms.weight;
-    match weight {
-        Weight::Plain => {}
-        Weight::Shifted => {}
+    match terms.weight {
+        Weight::Plain | Weight::Shifted => {}
         Weight::Next => {
             let rows = table::rows(terms.k);
             let stand = stand_of(side, rows - 1, rows, terms.inner);
@@ -73,6 +71,7 @@ fn add_row(stand: Stand, terms: Terms, point: &[u32], taken: usize, piece: &[u32
     let weight = terms
         .scale
         .mul(point::equality::at_row(point, terms.k, stand.row));
+    // By index: a turn takes an element of out, and a word that stands elsewhere in the piece.
     for i in first..end {
         let word = piece[stand.start + i * stand.stride - taken];
         table::put(out, i, table::read(out, i).add(weight.mul_base(word)));
@@ -84,8 +83,8 @@ fn reach(stand: Stand, inner: usize, t: usize) -> usize
     requires { (0 < stand.stride) × (t + stand.stride < 2 ^ 32) }
     ensures { result ≡ reached stand inner t }
 {
-    table::min(
+    usize::min(
         inner,
-        (table::remaining(t, stand.start) + stand.stride - 1) / stand.stride,
+        (t.saturating_sub(stand.start) + stand.stride - 1) / stand.stride,
     )
 }

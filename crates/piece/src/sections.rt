@@ -1,9 +1,8 @@
 // Section by section, on the suffix side: 2^HELD places at a time, each section a fold of its own, of the words of its places.
-ghost use Rattle.std.specs.Prelude.{◌≡◌, ◌-◌, ◌≤◌};
+ghost use Rattle.std.specs.Prelude.{◌≡◌};
 ghost use Rattle.multilinear.specs.declared.Side.TheVariants.{Suffix};
 ghost use Rattle.plan.specs.Plan.{fold_of};
-ghost use Rattle.plan.specs.Sound.{Sound, Fills};
-ghost use Rattle.plan.specs.Section.{section_of};
+ghost use Rattle.plan.specs.Sound.{Fills};
 
 use plan::Plan;
 
@@ -15,33 +14,15 @@ pub fn by_sections(plan: Plan, table: &[u32], out: &mut [u32])
     requires { Fills plan table.now out.old × (plan.side ≡ Suffix) }
     ensures { out.new ≡ fold_of plan table.now }
 {
-    let held = table::min(plan.n - plan.k, HELD);
+    let held = usize::min(plan.n - plan.k, HELD);
     let places = table::rows(held);
     let words = table::rows(plan.k + held);
+    // By index: a section's words and its places are parts of different lengths.
     for j in 0..table::rows(plan.n - plan.k - held) {
         let a = words * j;
         let b = a + words;
         let c = 4 * (places * j);
         let d = c + 4 * places;
-        crate::fold_whole(section_of(plan, held), &table[a..b], &mut out[c..d]);
-    }
-}
-
-// The plan of 2^held places of a fold.
-fn section_of(plan: Plan, held: usize) -> Plan
-    requires { Sound plan × (held ≤ plan.n - plan.k) }
-    ensures { result ≡ section_of plan held }
-{
-    let side = plan.side;
-    let weight = plan.weight;
-    let scale = plan.scale;
-    let coordinates = plan.coordinates;
-    Plan {
-        n: plan.k + held,
-        k: plan.k,
-        side,
-        weight,
-        scale,
-        coordinates,
+        crate::fold_whole(plan.section(held), &table[a..b], &mut out[c..d]);
     }
 }

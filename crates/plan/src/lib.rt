@@ -3,9 +3,11 @@
 //     rows 2^k, places 2^(n - k)      a table of 2^n words: one for each place of each row
 #![tactic(auto)]
 
-ghost use Rattle.std.specs.Prelude.{◌≡◌, ◌*◌, ◌≤◌, length, replicate};
+ghost use Rattle.std.specs.Prelude.{◌≡◌, ◌-◌, ◌*◌, ◌≤◌, length, replicate};
 ghost use Rattle.table.specs.Refusals.{most};
 ghost use Rattle.plan.specs.Plan.{padded, plan_of};
+ghost use Rattle.plan.specs.Sound.{Sound};
+ghost use Rattle.plan.specs.Section.{section_of};
 
 use field::Element;
 use multilinear::{Side, Weight};
@@ -21,6 +23,19 @@ pub struct Plan {
     pub weight: Weight,
     pub scale: Element,
     pub coordinates: [u32; WORDS],
+}
+
+impl Plan {
+    // The plan of 2^held places of the fold.
+    pub fn section(self, held: usize) -> Plan
+        requires { Sound self × (held ≤ self.n - self.k) }
+        ensures { result ≡ section_of self held }
+    {
+        Plan {
+            n: self.k + held,
+            ..self
+        }
+    }
 }
 
 // The plan of k coordinates, of which these words are given; the others are 0.
@@ -43,10 +58,8 @@ fn padded(point: &[u32]) -> [u32; WORDS]
     requires { length point.now ≤ 4 * most }
     ensures { result ≡ padded point.now }
 {
-    let mut words = room();
-    for i in 0..point.len() {
-        words[i] = point[i];
-    }
+    let mut words = [0u32; WORDS];
+    words[..point.len()].copy_from_slice(point);
     words
 }
 

@@ -154,6 +154,7 @@ pub fn fill(out: &mut [u32], point: &[u32], k: usize, order: BitOrder, scale: El
 {
     table::put(out, 0, scale);
     let mut len = 1;
+    // By number: the order says which coordinate enters at step i.
     for i in 0..k {
         let c = table::read(point, entering(order, k, i));
         double(out, len, c);
@@ -190,6 +191,7 @@ fn double(out: &mut [u32], n: usize, c: Element)
     ensures { Doubled n n (from_words c) out.old out.new }
 {
     let m = Multiplier::new(c);
+    // By number: nothing is known of halves that `chunks_exact_mut` lent.
     for i in 0..n {
         let v = table::get(out, i);
         let high = m.times(v);

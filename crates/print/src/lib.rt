@@ -24,12 +24,14 @@ pub struct Elements<'a>(pub &'a [u32]);
 
 impl fmt::Display for Elements<'_> {
     fn fmt<W: fmt::Write>(&self, f: &mut fmt::Formatter<W>) -> fmt::Result {
-        for i in 0..self.0.len() / 4 {
+        for (i, words) in self.0.chunks_exact(4).enumerate() {
             if 0 < i {
                 f.write_str(" ")?;
             }
-            let element = table::get(self.0, i);
-            write!(f, "{element}")?;
+            if let [c0, c1, c2, c3] = *words {
+                let element = Element::from([c0, c1, c2, c3]);
+                write!(f, "{element}")?;
+            }
         }
         Ok(())
     }

@@ -59,7 +59,7 @@ impl<const N: usize> Buffer<N> {
     pub fn hold(&mut self, bytes: &[u8])
         ensures { self.new ≡ take N (self.old ++ bytes.now) }
     {
-        let count = table::min(bytes.len(), N - self.count);
+        let count = bytes.len().min(N - self.count);
         self.extend(&bytes[..count]);
     }
 }

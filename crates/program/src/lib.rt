@@ -155,7 +155,7 @@ impl Program {
     }
 }
 
-// Room for the sums of 2^10 elements.
+// Room for the sums of 2^10 elements. In a function of its own, or the literal stands in each goal.
 fn out_room() -> [u32; OUT_WORDS]
     ensures { result ≡ replicate 4096 0 }
 {

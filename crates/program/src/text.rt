@@ -42,6 +42,7 @@ fn put_elements(out: &[u32], places: usize, text: &mut Buffer<MOST_TEXT>)
     requires room { length text.old + 33 * places ≤ most_text }
     ensures { text.new ≡ text.old ++ out_lines places out.now }
 {
+    // By number: out may have more elements than there are places.
     for i in 0..places {
         text.extend(&element_line(out, i));
     }
@@ -57,7 +58,7 @@ fn element_line(out: &[u32], i: usize) -> [u8; LINE_BYTES]
     line
 }
 
-// Room for an element's digits, and a line feed behind them.
+// Room for an element's digits, and a line feed behind them. In a function of its own, or the literal stands in each goal.
 fn line_room() -> [u8; LINE_BYTES]
     ensures { result ≡ replicate 33 line_feed }
 {

@@ -4,7 +4,7 @@ use mathlib.Core.Bool.{false}
 use Prim.Native.Nat.{ℕ, suc, min, ◌+◌, ◌-◌, ◌*◌, ◌^◌, ◌≤◌, ◌<◌}
 use native.Mathlib.Nat.{add-mul, pos_of_ne-zero, two-pow-succ}
 use native.Mathlib.Omega.{arith}
-use mathlib.Core.List.{List, ◌∷◌}
+use mathlib.Core.List.{List, [], ◌∷◌}
 use lib.ListN.{length, get_or, take}
 use lib.Seq.{length-take-le}
 use Rattle.algebra.specs.Ring.{minus}
@@ -27,8 +27,9 @@ use Rattle.table.proofs.Parts.{after, after_is, after_length, after_below, eleme
 use Rattle.table.proofs.Placed.{absent, left_over, placed_before, placed_word, placed_after, placed_none, placed_zero, placed_low, placed_high}
 use Rattle.table.proofs.Tests.{reduced_at}
 use Rattle.point.specs.Coordinates.{Coordinates}
-use Rattle.kernel.specs.Kernel.{Row, Rows}
+use Rattle.kernel.specs.Kernel.{Groups, rows_at}
 use Rattle.scatter.specs.Scatter.{Scatters, Scattered, whole_rows}
+use Rattle.scatter.proofs.WholeRows.{one_row_lem}
 
 -- a row of words from place `from` on, and all other places
 pub row_gained : (from : ℕ) (words : List ℕ) {m : ℕ} (weight : Ext) {out w : List ℕ}
@@ -71,19 +72,19 @@ module _ {from : ℕ} {rest words out : List ℕ} {weight : Element} (s : Scatte
     one_row : from + length words ≤ inner
     one_row = let q : 2 ^ 0 * inner ≡ inner = omega arith in rw (none, q) at s.within
 
-    pub row_fits : Row from out words
-    row_fits = record { room = omega (arith, one_row, s.room); words_below = s.below }
+    pub row_fits : Groups 1 from (length words) out words
+    row_fits = record { room = omega (arith, one_row, s.room); there = omega arith; words_below = s.below }
 
-    pub row_scattered : {w : List ℕ} → Gained from (length words) (λ y. field.mul (from_words weight) (base (get_or words y 0))) out w
+    pub row_scattered : {w : List ℕ} → Gained from (length words) (rows_at 1 (weight ∷ []) (length words) words) out w
         → Scattered from rest weight words out w
     unfolding elements
     row_scattered d =
-        gained_as _ (row_gained from words (from_words weight) d s.out_below one_row)
+        gained_as _ (row_gained from words (from_words weight) (gained_as _ d (λ y h. one_row_lem weight (length words) words y)) s.out_below one_row)
         (λ y h. rw none (sym (fold_one field_ring inner (from_words weight) (λ t. base (placed from words t)) y)))
 
   -- 2^n whole rows
   module _ (n : ℕ) (left : entries rest ≡ n) (all : length words ≡ 2 ^ n * inner) where
-    pub rows_fit : Rows (2 ^ n) inner out words
+    pub rows_fit : Groups (2 ^ n) 0 inner out words
     rows_fit = record { room = omega (arith, s.room); there = omega (arith, all); words_below = s.below }
 
     at_first : from ≡ 0

@@ -25,17 +25,18 @@ use Rattle.table.proofs.Laws.{table_at}
 use Rattle.table.proofs.Gaining.{nothing, gained_as, added}
 use Rattle.table.proofs.Parts.{after, after_word}
 use Rattle.table.proofs.Tests.{reduced_at}
-use Rattle.kernel.specs.Kernel.{two_products, two_rows, four_products, four_rows}
+use Rattle.kernel.specs.Kernel.{weighed, rows_at}
 use Rattle.scatter.specs.Scatter.{whole_rows, row_term}
 
 -- a fold over two rows
 two : (inner : ℕ) (z w : Ext) (f : ℕ → Ext) (y : ℕ)
     → fold_at field Prefix Plain inner (z ∷ []) w f y
-    ≡ field.add (field.mul (minus field w (field.mul w z)) (f y)) (field.mul (field.mul w z) (f (inner + y)))
+    ≡ field.add (field.mul (minus field w (field.mul w z)) (f (0 * inner + y))) (field.mul (field.mul w z) (f (1 * inner + y)))
 two inner z w f y =
-    let q : 2 ^ 0 * inner + y ≡ inner + y = omega arith in
+    let q : 2 ^ 0 * inner + y ≡ 1 * inner + y = omega arith in
+    let r : y ≡ 0 * inner + y = omega arith in
     fold_step field_ring inner z [] w f y
-    ∙ ap₂ field.add (fold_one field_ring inner _ f y)
+    ∙ ap₂ field.add (fold_one field_ring inner _ f y ∙ ap (λ n. field.mul (minus field w (field.mul w z)) (f n)) r)
     (fold_one field_ring inner _ (λ t. f (2 ^ 0 * inner + t)) y ∙ ap (λ n. field.mul (field.mul w z) (f n)) q)
 
 -- and over four
@@ -45,33 +46,72 @@ four : (inner : ℕ) (z0 z1 w : Ext) (f : ℕ → Ext) (y : ℕ)
     fold_at field Prefix Plain inner (z0 ∷ z1 ∷ []) w f y
     ≡ field.add
     (field.add
-    (field.add (field.mul (minus field low (field.mul low z1)) (f y)) (field.mul (field.mul low z1) (f (inner + y))))
+    (field.add (field.mul (minus field low (field.mul low z1)) (f (0 * inner + y))) (field.mul (field.mul low z1) (f (1 * inner + y))))
     (field.mul (minus field high (field.mul high z1)) (f (2 * inner + y)))) (field.mul (field.mul high z1) (f (3 * inner + y)))
 four inner z0 z1 w f y =
-    let q : 2 ^ 1 * inner + (inner + y) ≡ 3 * inner + y = omega arith in
+    let q : 2 ^ 1 * inner + (1 * inner + y) ≡ 3 * inner + y = omega arith in
+    let r : 2 ^ 1 * inner + (0 * inner + y) ≡ 2 * inner + y = omega arith in
     let high : Ext = field.mul w z0 in
     fold_step field_ring inner z0 (z1 ∷ []) w f y
     ∙ ap₂ field.add (two inner z1 (minus field w high) f y)
     (two inner z1 high (λ t. f (2 ^ 1 * inner + t)) y
-    ∙ ap (λ n. field.add (field.mul (minus field high (field.mul high z1)) (f (2 * inner + y))) (field.mul (field.mul high z1) (f n))) q)
+    ∙ ap₂ (λ m n. field.add (field.mul (minus field high (field.mul high z1)) (f m)) (field.mul (field.mul high z1) (f n))) r q)
     ∙ sym (field_ring.add_assoc _ _ _)
+
+-- the sum of one weight's word, of two and of four
+module _ (a b : Element) (word : ℕ → ℕ) where
+  abbrev by : Element → ℕ → Ext
+  by w t = field.mul (from_words w) (base (word t))
+
+  one_sum : weighed 1 (a ∷ []) word ≡ by a 0
+  unfolding weighed sum_to
+  one_sum = zero_add field_ring _
+
+  two_sum : weighed 2 (a ∷ b ∷ []) word ≡ field.add (by a 0) (by b 1)
+  unfolding weighed sum_to
+  two_sum = ap (λ u. field.add u (by b 1)) (zero_add field_ring _)
+
+  four_sum : (c d : Element)
+      → weighed 4 (a ∷ b ∷ c ∷ d ∷ []) word ≡ field.add (field.add (field.add (by a 0) (by b 1)) (by c 2)) (by d 3)
+  unfolding weighed sum_to
+  four_sum c d = ap (λ u. field.add (field.add (field.add u (by b 1)) (by c 2)) (by d 3)) (zero_add field_ring _)
+
+pub one_row_lem : (weight : Element) (n : ℕ) (words : List ℕ) (y : ℕ)
+    → rows_at 1 (weight ∷ []) n words y ≡ field.mul (from_words weight) (base (get_or words y 0))
+one_row_lem weight n words y =
+    let q : 0 * n + y ≡ y = omega arith in
+    one_sum weight weight _ ∙ ap (λ t. field.mul (from_words weight) (base (get_or words t 0))) q
 
 -- the weights of the rows
 module _ (weight : Element) (rest words : List ℕ) (inner : ℕ) {z0 high low : Element} (hz0 : Holds z0 (element_at rest 0))
     (hh : Holds high (field.mul (from_words weight) (from_words z0)))
     (hl : Holds low (minus field (from_words weight) (from_words high))) where
-  pub two_rows_lem : (y : ℕ) → two_rows low high inner words y ≡ whole_rows 1 rest weight inner words y
-  unfolding two_products elements
-  two_rows_lem y = rw (read_as _ hl, read_as _ hh, read_as _ hz0) (sym (two inner _ _ (λ t. base (get_or words t 0)) y))
+  two_lem : (y : ℕ) → field.add (field.mul (from_words low) (base (get_or words (0 * inner + y) 0)))
+      (field.mul (from_words high) (base (get_or words (1 * inner + y) 0)))
+      ≡ whole_rows 1 rest weight inner words y
+  unfolding elements
+  two_lem y = rw (read_as _ hl, read_as _ hh, read_as _ hz0) (sym (two inner _ _ (λ t. base (get_or words t 0)) y))
 
-  pub four_rows_lem : {z1 w1 w3 w0 w2 : Element} → Holds z1 (element_at rest 1) → Holds w1 (field.mul (from_words low) (from_words z1))
-      → Holds w3 (field.mul (from_words high) (from_words z1)) → Holds w0 (minus field (from_words low) (from_words w1))
-      → Holds w2 (minus field (from_words high) (from_words w3)) → (y : ℕ)
-      → four_rows w0 w1 w2 w3 inner words y ≡ whole_rows 2 rest weight inner words y
-  unfolding four_products elements
-  four_rows_lem hz1 h1 h3 h0 h2 y =
-      rw (read_as _ h0, read_as _ h2, read_as _ h1, read_as _ h3, read_as _ hl, read_as _ hh, read_as _ hz0, read_as _ hz1)
-      (sym (four inner _ _ _ (λ t. base (get_or words t 0)) y))
+  pub two_rows_lem : (y : ℕ) → rows_at 2 (low ∷ high ∷ []) inner words y ≡ whole_rows 1 rest weight inner words y
+  two_rows_lem y = two_sum low high _ ∙ two_lem y
+
+  module _ {z1 w1 w3 w0 w2 : Element} (hz1 : Holds z1 (element_at rest 1)) (h1 : Holds w1 (field.mul (from_words low) (from_words z1)))
+      (h3 : Holds w3 (field.mul (from_words high) (from_words z1))) (h0 : Holds w0 (minus field (from_words low) (from_words w1)))
+      (h2 : Holds w2 (minus field (from_words high) (from_words w3))) where
+    four_lem : (y : ℕ) → field.add
+        (field.add
+        (field.add (field.mul (from_words w0) (base (get_or words (0 * inner + y) 0)))
+        (field.mul (from_words w1) (base (get_or words (1 * inner + y) 0))))
+        (field.mul (from_words w2) (base (get_or words (2 * inner + y) 0))))
+        (field.mul (from_words w3) (base (get_or words (3 * inner + y) 0)))
+        ≡ whole_rows 2 rest weight inner words y
+    unfolding elements
+    four_lem y =
+        rw (read_as _ h0, read_as _ h2, read_as _ h1, read_as _ h3, read_as _ hl, read_as _ hh, read_as _ hz0, read_as _ hz1)
+        (sym (four inner _ _ _ (λ t. base (get_or words t 0)) y))
+
+    pub four_rows_lem : (y : ℕ) → rows_at 4 (w0 ∷ w1 ∷ w2 ∷ w3 ∷ []) inner words y ≡ whole_rows 2 rest weight inner words y
+    four_rows_lem y = four_sum w0 w1 _ w2 w3 ∙ four_lem y
 
 -- four of thirty-two rows are there from row 4 j on
 pub four_within : (inner j n : ℕ) → j < 8 → 32 * inner ≤ n → 4 * j * inner + 4 * inner ≤ n
@@ -89,19 +129,19 @@ module _ (weights words : List ℕ) (inner : ℕ) where
   no_rows out r = nothing 0 inner out (λ y h. reduced_at out r (0 + y))
 
   module _ (j : ℕ) where
-    row : (a place i : ℕ) (e : Element) → place ≡ a * inner + i → Holds e (element_at weights (4 * j + a))
-        → field.mul (from_words e) (base (get_or (after (4 * j * inner) words) place 0)) ≡ term i (4 * j + a)
+    row : (a i : ℕ) (e : Element) → Holds e (element_at weights (4 * j + a))
+        → field.mul (from_words e) (base (get_or (after (4 * j * inner) words) (a * inner + i) 0)) ≡ term i (4 * j + a)
     unfolding row_term
-    row a place i e q d =
-        let r : 4 * j * inner + place ≡ (4 * j + a) * inner + i = omega (arith, add-mul (4 * j) a inner) in
-        ap₂ (λ u v. field.mul u (base v)) (read_as _ d) (after_word (4 * j * inner) words place ∙ ap (λ n. get_or words n 0) r)
+    row a i e d =
+        let r : 4 * j * inner + (a * inner + i) ≡ (4 * j + a) * inner + i = omega (arith, add-mul (4 * j) a inner) in
+        ap₂ (λ u v. field.mul u (base v)) (read_as _ d) (after_word (4 * j * inner) words (a * inner + i) ∙ ap (λ n. get_or words n 0) r)
 
     pub four_more : {a0 a1 a2 a3 : Element} {ws w w' : List ℕ} → Gained 0 inner (λ i. sum_to field (4 * j) (term i)) ws w
         → Holds a0 (element_at weights (4 * j)) → Holds a1 (element_at weights (4 * j + 1))
         → Holds a2 (element_at weights (4 * j + 2)) → Holds a3 (element_at weights (4 * j + 3))
-        → Gained 0 inner (four_rows a0 a1 a2 a3 inner (after (4 * j * inner) words)) w w'
+        → Gained 0 inner (rows_at 4 (a0 ∷ a1 ∷ a2 ∷ a3 ∷ []) inner (after (4 * j * inner) words)) w w'
         → Gained 0 inner (λ i. sum_to field (4 * (j + 1)) (term i)) ws w'
-    unfolding four_products sum_to
+    unfolding weighed sum_to
     four_more {a0} {a1} {a2} {a3} d e0 e1 e2 e3 g =
         let q : 4 * j + 4 ≡ 4 * (j + 1) = omega arith in
         let z : 4 * j ≡ 4 * j + 0 = omega arith in
@@ -109,9 +149,9 @@ module _ (weights words : List ℕ) (inner : ℕ) where
         ap (field.add (sum_to field (4 * j) (term i)))
         (ap₂ field.add
         (ap₂ field.add
-        (ap₂ field.add (row 0 _ i a0 (omega arith) (rw z at e0) ∙ sym (zero_add field_ring (term i (4 * j + 0)))) (row 1 _ i a1 (omega arith) e1))
-        (row 2 _ i a2 (omega arith) e2))
-        (row 3 _ i a3 (omega arith) e3))
+        (ap₂ field.add (ap (field.add field.zero) (row 0 i a0 (rw z at e0))) (row 1 i a1 e1))
+        (row 2 i a2 e2))
+        (row 3 i a3 e3))
         ∙ sym (sum_split field_ring 4 (4 * j) (term i)) ∙ ap (λ n. sum_to field n (term i)) q)
 
   -- all thirty-two rows, by the table of weight·eq of five coordinates

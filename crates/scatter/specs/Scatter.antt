@@ -10,7 +10,7 @@ use Rattle.table.specs.Table.{element_at, elements, entries, point_of, placed}
 use Rattle.table.specs.Gained.{Gained}
 use Rattle.table.specs.Refusals.{most}
 use Rattle.point.specs.Coordinates.{Coordinates}
-use Rattle.kernel.specs.Kernel.{Rows}
+use Rattle.kernel.specs.Kernel.{Groups}
 
 -- words from word `from` on of rows of as many words as out has elements, the coordinates that are left, and a weight
 pub record Scatters (from : ℕ) (rest : List ℕ) (weight : Element) (words out : List ℕ) : Type 0 where
@@ -37,7 +37,7 @@ whole_rows n rest weight inner words i = fold_at field Prefix Plain inner (eleme
 pub record Weighs (weights words out : List ℕ) : Type 0 where
   pub weights_there : length weights ≡ 128
   pub weights_below : unreduced p weights ≡ false
-  pub rows_are : Rows 32 (entries out) out words
+  pub rows_are : Groups 32 0 (entries out) out words
   pub out_below : unreduced p out ≡ false
 
 -- the word of place i of row y by the row's weight

@@ -1,14 +1,14 @@
 // Words in rows, scattered over their places: each place gains its words, each by the weight of its row.
 #![tactic(auto)]
 
-ghost use Rattle.std.specs.Prelude.{◌≡◌, false, replicate};
+ghost use Rattle.std.specs.Prelude.{◌≡◌, false};
 ghost use Rattle.algebra.specs.Sum.{sum_to};
 ghost use Rattle.algebra.specs.Words.{unreduced};
 ghost use Rattle.field.specs.Field.{p, field, Reduced};
 ghost use Rattle.table.specs.Table.{entries};
 ghost use Rattle.table.specs.Gained.{Gained};
 ghost use Rattle.point.specs.Coordinates.{Coordinates};
-ghost use Rattle.kernel.specs.Kernel.{Rows};
+ghost use Rattle.kernel.specs.Kernel.{Groups};
 ghost use Rattle.scatter.specs.Scatter.{Scatters, Scattered, whole_rows, Weighs, row_term};
 
 use field::Element;
@@ -30,7 +30,7 @@ pub fn scatter(words: &[u32], at: usize, rest: &[u32], weight: Element, out: &mu
         return;
     }
     if left == 0 {
-        kernel::gain_row(out, at, words, weight);
+        kernel::gain_rows(out, at, words, words.len(), [weight]);
         return;
     }
     if left == 2 && words.len() == 4 * inner {
@@ -44,12 +44,12 @@ pub fn scatter(words: &[u32], at: usize, rest: &[u32], weight: Element, out: &mu
     let high = weight.mul(table::read(rest, 0));
     let low = weight.sub(high);
     if left == 1 && words.len() == 2 * inner {
-        kernel::gain_two(out, words, inner, low, high);
+        kernel::gain_rows(out, 0, words, inner, [low, high]);
         return;
     }
     let half = table::rows(left - 1) * inner;
-    let at0 = table::min(at, half);
-    let cut = table::min(words.len(), half - at0);
+    let at0 = usize::min(at, half);
+    let cut = usize::min(words.len(), half - at0);
     scatter(&words[..cut], at0, &rest[4..], low, out);
     scatter(&words[cut..], at - at0, &rest[4..], high, out);
 }
@@ -57,7 +57,7 @@ pub fn scatter(words: &[u32], at: usize, rest: &[u32], weight: Element, out: &mu
 // Four whole rows, with one reduction a place and coordinate.
 fn four_rows(words: &[u32], rest: &[u32], weight: Element, out: &mut [u32])
     requires coordinates { Coordinates 2 rest.now × Reduced weight }
-    requires rows { Rows 4 (entries out.old) out.old words.now }
+    requires rows { Groups 4 0 (entries out.old) out.old words.now }
     ensures { Gained 0 (entries out.old)
         (whole_rows 2 rest.now weight (entries out.old) words.now)
         out.old out.new }
@@ -67,18 +67,19 @@ fn four_rows(words: &[u32], rest: &[u32], weight: Element, out: &mut [u32])
     let low = weight.sub(high);
     let w1 = low.mul(z);
     let w3 = high.mul(z);
-    kernel::gain_rows(out, words, out.len() / 4, low.sub(w1), w1, high.sub(w3), w3);
+    let weights = [low.sub(w1), w1, high.sub(w3), w3];
+    kernel::gain_rows(out, 0, words, out.len() / 4, weights);
 }
 
 // A block of thirty-two whole rows, by the table of their weights.
 fn block_rows(words: &[u32], rest: &[u32], weight: Element, out: &mut [u32])
     requires coordinates { Coordinates 5 rest.now × Reduced weight }
-    requires rows { Rows 32 (entries out.old) out.old words.now × (unreduced p out.old ≡ false) }
+    requires rows { Groups 32 0 (entries out.old) out.old words.now × (unreduced p out.old ≡ false) }
     ensures { Gained 0 (entries out.old)
         (whole_rows 5 rest.now weight (entries out.old) words.now)
         out.old out.new }
 {
-    let mut weights = room();
+    let mut weights = [0u32; 128];
     point::equality::fill(&mut weights, rest, 5, BitOrder::Msb, weight);
     by_table(words, &weights, out);
 }
@@ -91,23 +92,16 @@ fn by_table(words: &[u32], weights: &[u32], out: &mut [u32])
         out.old out.new }
 {
     let inner = out.len() / 4;
+    // By index: a turn takes four elements of the table, and four rows.
     for j in 0..8 {
         let y = 4 * j;
         let start = y * inner;
-        kernel::gain_rows(
-            out,
-            &words[start..],
-            inner,
+        let four = [
             table::read(weights, y),
             table::read(weights, y + 1),
             table::read(weights, y + 2),
             table::read(weights, y + 3),
-        );
+        ];
+        kernel::gain_rows(out, 0, &words[start..], inner, four);
     }
-}
-
-fn room() -> [u32; 128]
-    ensures { result ≡ replicate 128 0 }
-{
-    [0u32; 128]
 }

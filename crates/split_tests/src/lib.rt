@@ -32,7 +32,7 @@ pub fn of_fold(
     table::refuse_if(n < k, Refusal::Lengths)?;
     table::refuse_if(work::differs(work, k), Refusal::Lengths)?;
     table::refuse_if(
-        table::rows_differ(out, table::remaining(n, k)),
+        table::rows_differ(out, n.saturating_sub(k)),
         Refusal::Lengths,
     )?;
     words(table, point, scale)

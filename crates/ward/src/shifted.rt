@@ -71,7 +71,7 @@ impl<'a> Fold<'a> {
         let n = table::variables(self.table.len() / 4);
         let k = self.point.len() / 4 / 4;
         let both = table::rows(k / 2) + table::rows(k - k / 2);
-        let places = table::rows(table::remaining(n, k));
+        let places = table::rows(n.saturating_sub(k));
         table::refuse_if(n < k, Refusal::Lengths)?;
         table::refuse_if(work.len() / 4 / 4 != both, Refusal::Lengths)?;
         table::refuse_if(out.len() / 4 / 4 != places, Refusal::Lengths)?;

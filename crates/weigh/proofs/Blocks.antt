@@ -4,7 +4,6 @@ use Prim.Native.Nat.{ℕ, ◌+◌, ◌*◌, ◌^◌, ◌≤◌}
 use native.Mathlib.Omega.{arith}
 use mathlib.Core.List.{List, ◌++◌}
 use lib.ListN.{length, take, drop, replicate, length-append, length-replicate}
-use lib.Pow.{pow_mono}
 use lib.Seq.{length-take-le}
 use Rattle.algebra.proofs.Words.{unreduced_append, unreduced_drop, unreduced_zeros}
 use Rattle.multilinear.specs.Equality.{eq_at}
@@ -18,11 +17,9 @@ use Rattle.point.specs.Inner.{Follows}
 use Rattle.point.specs.Coordinates.{Coordinates}
 use Rattle.weigh.specs.Weigh.{BlockRoom, Block}
 
--- cleared words for a block of at most so many variables
-pub cleared : (most : ℕ) {low : ℕ} {ws : List ℕ} → low ≤ most → ws ≡ replicate (4 * 2 ^ most) 0 → BlockRoom low ws
-cleared most {low} few e =
-    let m : 2 ^ low ≤ 2 ^ most = pow_mono few in
-    record { enough = rw (e, length-replicate {A = ℕ} (4 * 2 ^ most) 0) (omega arith); below = rw e (unreduced_zeros p p_pos (4 * 2 ^ most)) }
+-- cleared words for a block
+pub cleared : (n : ℕ) {low : ℕ} → 4 * 2 ^ low ≤ n → BlockRoom low (replicate n 0)
+cleared n l = record { enough = rw (length-replicate {A = ℕ} n 0) l; below = unreduced_zeros p p_pos n }
 
 module _ (point : List ℕ) (high low rows : ℕ) (scale : Element) (room : List ℕ) (is : BlockRoom low room) (e : rows ≡ 2 ^ low) where
   pub fitting : 4 * rows ≤ length room

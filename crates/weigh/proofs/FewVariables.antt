@@ -1,10 +1,10 @@
 -- What the functions of `small` lend their calls, and what they give. Assumes nothing.
-use mathlib.Core.Path.{◌≡◌, refl, ap, ◌∙◌}
+use mathlib.Core.Path.{◌≡◌, refl, ap, ap₂, ◌∙◌}
 use Prim.Native.Nat.{ℕ, suc, ◌+◌, ◌*◌, ◌^◌, ◌≤◌, ◌<◌}
+use native.Mathlib.Nat.{mul_comm, add-mul, one-mul, mul-le-mul_right}
 use native.Mathlib.Omega.{arith}
 use mathlib.Core.List.{List}
-use lib.ListN.{length, get_or, take}
-use lib.Pow.{pow_pos}
+use lib.ListN.{length, take}
 use Rattle.algebra.specs.Ring.{minus}
 use Rattle.multilinear.specs.Values.{value_at}
 use Rattle.multilinear.specs.Beside.{line}
@@ -12,12 +12,12 @@ use Rattle.field.specs.Field.{factor, Ext, field, base, from_words, Holds}
 use Rattle.field.specs.declared.Element.{Element}
 use Rattle.field.proofs.Laws.{holds, read_as}
 use Rattle.table.specs.Table.{get_at, element_at, elements}
-use Rattle.table.proofs.Parts.{after, rest}
+use Rattle.table.proofs.Parts.{after}
 use Rattle.table.proofs.Writing.{Written}
 use Rattle.point.specs.Coordinates.{Coordinates}
-use Rattle.weigh.specs.Weigh.{Whole, WholeExt, Raised, Ready, words_value, elements_value}
+use Rattle.weigh.specs.Weigh.{Raised, Ready}
+use Rattle.weigh.specs.Entries.{WholeTable, Entry, Parted, table_value}
 use Rattle.weigh.proofs.Halving.{one_entry, joined}
-use Rattle.weigh.proofs.TableHalves.{low_word, high_word, low_element, high_element}
 
 -- a coordinate times X⁴
 abbrev pub raised_at : List ℕ → ℕ → Ext
@@ -59,29 +59,27 @@ pub on_line : (a b : Element) {r d x : Element} {z : Ext} → Holds r z → Hold
     → Holds x (field.add (from_words a) (field.mul (from_words d) (from_words r))) → Holds x (line field (from_words a) (from_words b) z)
 on_line a b d-r d-d d = rw (read_as _ d-r, read_as _ d-d) at d
 
-module _ {n m half : ℕ} (e : n ≡ suc m) (h : half ≡ 2 ^ m) (point : List ℕ) (i : ℕ) where
-  pub words_joined : {words : List ℕ} → Whole n words → {at0 at1 x : Element}
-      → Holds at0 (words_value (i + 1) m point (take half words))
-      → Holds at1 (words_value (i + 1) m point (after half words))
+module _ {n m half width : ℕ} {entry : List ℕ → ℕ → Ext} (parted : Parted width entry) (e : n ≡ suc m) (h : half ≡ 2 ^ m) where
+  -- the value of a table, from those of its halves
+  pub table_joined : (point : List ℕ) (i : ℕ) (ws : List ℕ) {at0 at1 x : Element}
+      → Holds at0 (table_value entry (i + 1) m point (take (width * half) ws))
+      → Holds at1 (table_value entry (i + 1) m point (after (width * half) ws))
       → Holds x (line field (from_words at0) (from_words at1) (element_at point i))
-      → Holds x (words_value i n point words)
-  words_joined {words} w =
-      joined point i e (λ y. base (get_or words y 0)) _ _ (λ y b. ap base (low_word e h w y b)) (λ y b. ap base (high_word e h w y))
-
-  pub elements_joined : {ws : List ℕ} → WholeExt n ws → {at0 at1 x : Element}
-      → Holds at0 (elements_value (i + 1) m point (take (4 * half) ws))
-      → Holds at1 (elements_value (i + 1) m point (rest half ws))
-      → Holds x (line field (from_words at0) (from_words at1) (element_at point i))
-      → Holds x (elements_value i n point ws)
-  elements_joined {ws} w = joined point i e (element_at ws) _ _ (low_element e h w) (λ y b. high_element e h w y)
+      → Holds x (table_value entry i n point ws)
+  table_joined point i ws =
+      joined point i e (entry ws) _ _ (λ y b. parted.low half ws y (omega (arith, h)))
+      (λ y b. parted.high half ws y ∙ ap (λ k. entry ws (k + y)) h)
 
 -- the entries of a table, and those of a pair
-module _ {n : ℕ} {ws : List ℕ} (w : WholeExt n ws) where
-  pub one_there : 4 ≤ length ws
-  one_there = omega (arith, w.count, pow_pos n)
-
-  pub pair_there : n ≡ 1 → length ws ≡ 8
-  pair_there e = w.count ∙ ap (λ k. 4 * 2 ^ k) e
+module _ {n width : ℕ} {ws : List ℕ} (w : WholeTable width n ws) where
+  pub entry_there : (y : ℕ) → y < 2 ^ n → Entry width y ws
+  entry_there y l =
+      let q : width * (y + 1) ≡ width * y + width = mul_comm width (y + 1) ∙ add-mul y 1 width ∙ ap₂ ◌+◌ (mul_comm y width) (one-mul width) in
+      let m : (y + 1) * width ≤ 2 ^ n * width = mul-le-mul_right width (omega arith) in
+      record {
+        there = omega (arith, w.count, q, m, mul_comm width (y + 1), mul_comm width (2 ^ n));
+        below = w.below;
+      }
 
 -- the value of a pair, of which no half has a coordinate left
 pub pair_joined : (point : List ℕ) (i : ℕ) {n : ℕ} → n ≡ 1 → (f : ℕ → Ext) {at0 at1 x : Element} → Holds at0 (f 0) → Holds at1 (f 1)

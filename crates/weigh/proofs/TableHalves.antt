@@ -1,42 +1,45 @@
 -- The halves of a table of words, and those of a table of elements. Assumes nothing.
-use mathlib.Core.Path.{◌≡◌, ap, ◌∙◌}
+use mathlib.Core.Path.{◌≡◌, ap, ap₂, ◌∙◌}
 use Prim.Native.Nat.{ℕ, suc, ◌+◌, ◌-◌, ◌*◌, ◌^◌, ◌≤◌, ◌<◌}
+use native.Mathlib.Nat.{mul_comm, add-mul}
 use native.Mathlib.Omega.{arith}
 use mathlib.Core.List.{List}
-use lib.ListN.{length, get_or, take}
-use lib.Seq.{get_or-take, length-take-le}
+use lib.ListN.{length, take}
+use lib.Seq.{length-take-le}
 use Rattle.algebra.proofs.Words.{unreduced_take}
 use Rattle.field.specs.Field.{p, p_pos, from_words}
 use Rattle.table.specs.Table.{get_at, element_at}
-use Rattle.table.proofs.Parts.{after, after_length, after_below, after_word, rest, rest_length, rest_below, rest_get, get_take}
-use Rattle.weigh.specs.Weigh.{Whole, WholeExt}
+use Rattle.table.proofs.Parts.{after, after_length, after_below, rest, rest_length, rest_below, rest_get, get_take}
+use Rattle.weigh.specs.Weigh.{WholeExt}
+use Rattle.weigh.specs.Entries.{WholeTable}
 use Rattle.weigh.proofs.Halving.{twice_half}
 
 module _ {n m half : ℕ} (e : n ≡ suc m) (h : half ≡ 2 ^ m) where
   rows : 2 ^ n ≡ half + half
   rows = omega (arith, twice_half e, h)
 
-  module _ {words : List ℕ} (w : Whole n words) where
-    size : length words ≡ half + half
-    size = w.count ∙ rows
+  -- of a table whose entries have so many words
+  module _ {width : ℕ} {ws : List ℕ} (w : WholeTable width n ws) where
+    size : length ws ≡ width * half + width * half
+    size =
+        w.count ∙ ap (λ k. width * k) rows ∙ mul_comm width (half + half) ∙ add-mul half half width
+        ∙ ap₂ ◌+◌ (mul_comm half width) (mul_comm half width)
 
-    pub half_there : half ≤ length words
+    pub half_there : width * half ≤ length ws
     half_there = omega (arith, size)
 
-    pub low_whole : Whole m (take half words)
+    pub low_whole : WholeTable width m (take (width * half) ws)
     low_whole =
-        record { count = length-take-le half words half_there ∙ h; below = unreduced_take p p_pos half words w.below }
+        record {
+          count = length-take-le (width * half) ws half_there ∙ ap (λ k. width * k) h;
+          below = unreduced_take p p_pos (width * half) ws w.below;
+        }
 
-    pub high_whole : Whole m (after half words)
+    pub high_whole : WholeTable width m (after (width * half) ws)
     high_whole =
-        let l : length (after half words) ≡ length words - half = after_length half words in
-        record { count = omega (arith, h, l, size); below = after_below half words w.below }
-
-    pub low_word : (y : ℕ) → y < 2 ^ m → get_or (take half words) y 0 ≡ get_or words y 0
-    low_word y b = get_or-take half words y 0 (omega (arith, h))
-
-    pub high_word : (y : ℕ) → get_or (after half words) y 0 ≡ get_or words (2 ^ m + y) 0
-    high_word y = after_word half words y ∙ ap (λ k. get_or words (k + y) 0) h
+        let l : length (after (width * half) ws) ≡ length ws - width * half = after_length (width * half) ws in
+        let s : length ws - width * half ≡ width * half = omega (arith, size) in
+        record { count = l ∙ s ∙ ap (λ k. width * k) h; below = after_below (width * half) ws w.below }
 
   module _ {ws : List ℕ} (w : WholeExt n ws) where
     size_ext : length ws ≡ 4 * half + 4 * half

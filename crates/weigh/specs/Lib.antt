@@ -1,1 +1,2 @@
 pub mod Weigh
+pub mod Entries

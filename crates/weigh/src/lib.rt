@@ -8,18 +8,20 @@
 // variables or fewer is made by halves alone.
 #![tactic(auto)]
 
+mod entries;
 mod small;
 
-ghost use Rattle.std.specs.Prelude.{◌≡◌, ◌+◌, ◌*◌, ◌^◌, ◌%◌, ◌≤◌, ltb, replicate};
+ghost use Rattle.std.specs.Prelude.{◌≡◌, ◌+◌, ◌*◌, ◌^◌, ◌%◌, ◌≤◌, ltb};
 ghost use Rattle.algebra.specs.Ring.{Ops};
 ghost use Rattle.multilinear.specs.Beside.{line};
 ghost use Rattle.field.specs.Field.{field, from_words, Reduced, Holds};
 ghost use Rattle.table.specs.Refusals.{most};
 ghost use Rattle.point.specs.Coordinates.{Coordinates};
 ghost use Rattle.weigh.specs.Weigh.{block_variables, small_block_variables, NearlyWhole, Whole, WholeExt};
-ghost use Rattle.weigh.specs.Weigh.{BlockRoom, Block, Parts, InRow, PartsExt};
+ghost use Rattle.weigh.specs.Weigh.{Block, Parts, InRow, PartsExt};
 ghost use Rattle.weigh.specs.Weigh.{words_value, elements_value, part_value, part_value_ext};
 
+use entries::{Elements, Words};
 use field::Element;
 
 // The most variables of a block.
@@ -40,7 +42,7 @@ pub fn value(words: &[u32], point: &[u32], n: usize) -> Element
 {
     if n <= BLOCK {
         let raised = small::raised(point, n);
-        small::halves(words, point, &raised, 0, n)
+        small::halves::<Words>(words, point, &raised, 0, n)
     } else {
         weigh(words, point, n, Element::one())
     }
@@ -53,7 +55,7 @@ pub fn value_ext(entries: &[u32], point: &[u32], n: usize) -> Element
 {
     if n <= BLOCK {
         let raised = small::raised(point, n);
-        small::halves_ext(entries, point, &raised, 0, n)
+        small::halves::<Elements>(entries, point, &raised, 0, n)
     } else {
         weigh_ext(entries, point, n, Element::one())
     }
@@ -83,7 +85,7 @@ pub fn weigh_ext(entries: &[u32], point: &[u32], k: usize, scale: Element) -> El
 pub fn lowest(k: usize) -> usize
     ensures { (result ≤ k) × (result ≤ block_variables) }
 {
-    table::min(k, BLOCK)
+    k.min(BLOCK)
 }
 
 // The table of scale eq of the low coordinates that follow the first high ones.
@@ -91,9 +93,7 @@ pub fn block_of(point: &[u32], high: usize, low: usize, scale: Element) -> [u32;
     requires { (Coordinates (high + low) point.now × Reduced scale) × (low ≤ block_variables) }
     ensures { Block high low point.now (from_words scale) result }
 {
-    let mut block = block_room();
-    fill_block(&mut block, point, high, low, scale);
-    block
+    filled(point, high, low, scale)
 }
 
 // The same for a small block: there is less to clear.
@@ -106,29 +106,23 @@ pub fn small_block_of(
     requires { (Coordinates (high + low) point.now × Reduced scale) × (low ≤ small_block_variables) }
     ensures { Block high low point.now (from_words scale) result }
 {
-    let mut block = small_room();
-    fill_block(&mut block, point, high, low, scale);
-    block
+    filled(point, high, low, scale)
 }
 
-fn fill_block(block: &mut [u32], point: &[u32], high: usize, low: usize, scale: Element)
-    requires { (Coordinates (high + low) point.now × Reduced scale) × BlockRoom low block.old }
-    ensures { Block high low point.now (from_words scale) block.new }
+// The same in so many words.
+fn filled<const WORDS: usize>(
+    point: &[u32],
+    high: usize,
+    low: usize,
+    scale: Element,
+) -> [u32; WORDS]
+    requires { (Coordinates (high + low) point.now × Reduced scale) × (4 * 2 ^ low ≤ WORDS) }
+    ensures { Block high low point.now (from_words scale) result }
 {
+    let mut block = [0u32; WORDS];
     let words = 4 * table::rows(low);
     point::equality::fill_last(&mut block[..words], point, high, low, scale);
-}
-
-fn block_room() -> [u32; BLOCK_WORDS]
-    ensures { result ≡ replicate (4 * 2 ^ block_variables) 0 }
-{
-    [0u32; BLOCK_WORDS]
-}
-
-fn small_room() -> [u32; SMALL_BLOCK_WORDS]
-    ensures { result ≡ replicate (4 * 2 ^ small_block_variables) 0 }
-{
-    [0u32; SMALL_BLOCK_WORDS]
+    block
 }
 
 // The value, at the coordinates i to i + high - 1, of the sums of the blocks against the block's table. The words stand at the rows
@@ -241,8 +235,8 @@ fn halves(
         dots::dot(&block[start..end], words)
     } else {
         let half = table::rows(high - 1 + low);
-        let from0 = table::min(from, half);
-        let cut = table::min(words.len(), half - from0);
+        let from0 = from.min(half);
+        let cut = words.len().min(half - from0);
         let at0 = halves(&words[..cut], from0, point, i + 1, high - 1, low, block);
         let at1 = halves(
             &words[cut..],
@@ -257,7 +251,7 @@ fn halves(
     }
 }
 
-// The same of a table of elements.
+// The same of a table of elements. No plainer: of words some rows may have none, and they stand from a row on; the elements are all there.
 fn halves_ext(
     entries: &[u32],
     point: &[u32],

@@ -8,17 +8,15 @@ use lib.Seq.{length-take-le}
 use borrow.Rule.Slice.PartMut.{put_mid}
 use Rattle.algebra.proofs.Ring.{one_mul}
 use Rattle.multilinear.specs.Equality.{eq_at}
-use Rattle.field.specs.Field.{field, from_words, Reduced, Holds}
+use Rattle.field.specs.Field.{field, from_words, Holds}
 use Rattle.field.specs.declared.Element.{Element}
 use Rattle.field.proofs.Laws.{field_ring, read_as}
 use Rattle.table.specs.Table.{elements, table_words}
 use Rattle.table.proofs.Laws.{table_ext}
-use Rattle.table.proofs.Parts.{both_parts, part_length}
-use Rattle.point.specs.Inner.{Fits, Follows}
+use Rattle.table.proofs.Parts.{both_parts}
 use Rattle.point.specs.Coordinates.{Coordinates}
 use Rattle.work.specs.Work.{first, others, work_words}
 use Rattle.work.specs.Inner.{BothTables}
-use Rattle.work.proofs.Weights.{together}
 
 module _ (k : ℕ) (work : List ℕ) (n0 : ℕ) (sized : BothTables k work) (rows : n0 ≡ 2 ^ first k) where
   pub within : 4 * n0 ≤ length work
@@ -28,30 +26,12 @@ module _ (k : ℕ) (work : List ℕ) (n0 : ℕ) (sized : BothTables k work) (row
   lent = length-take-le (4 * n0) work within
 
   module _ (point : List ℕ) (scale : Element) (is : Coordinates k point) where
-    pub ready : Reduced scale → Fits (first k) point scale (take (4 * n0) work)
-    ready r =
-        record {
-          point_is = record { few = omega (arith, is.few); count = omega (arith, is.count); below = is.below };
-          scale_is = r;
-          room = lent ∙ ap (λ n. 4 * n) rows;
-        }
-
     module _ (x : List ℕ) (l : length x ≡ length (take (4 * n0) work)) where
       abbrev now : List ℕ
       now = x ++ drop (4 * n0) work
 
       size_now : length now ≡ length work
       size_now = omega (arith, within, l, lent, length-append x (drop (4 * n0) work), length-drop (4 * n0) work)
-
-      pub ready_last : {one : Element} → Holds one field.one
-          → Follows (first k) (others k) point one (take (length now - 4 * n0) (drop (4 * n0) now))
-      ready_last h =
-          record {
-            point_is = rw (together k) is;
-            scale_is = h.below;
-            room = part_length (4 * n0) (length now - 4 * n0) now (omega (arith, within, size_now))
-                ∙ omega (arith, within, size_now, sized.size);
-          }
 
       pub filled : (one : Element) {y : List ℕ} → Holds one field.one
           → x ≡ table_words (2 ^ first k) (λ r. field.mul (from_words scale) (eq_at field (elements point 0 (first k)) r))

@@ -5,23 +5,23 @@ use Prim.Native.Nat.{ℕ, ◌+◌, ◌*◌, ◌/◌, ◌%◌, ◌^◌, ◌≤◌
 use native.Mathlib.Nat.{zero-add, mod-lt, mul-le-mul_right, suc-mul}
 use native.Mathlib.Omega.{arith}
 use mathlib.Core.List.{List, ◌++◌}
-use lib.ListN.{length, length-append}
+use lib.ListN.{length, take, drop, length-append, length-drop}
 use lib.Pow.{pow-add, pow_pos, shr_lt, high, low}
-use lib.Seq.{drop_at}
+use lib.Seq.{drop_at, length-take-le}
 use Rattle.algebra.specs.Words.{unreduced}
-use Rattle.algebra.proofs.Words.{unreduced_append}
+use Rattle.algebra.proofs.Words.{unreduced_append, unreduced_take, unreduced_drop}
 use Rattle.multilinear.specs.Equality.{eq_at}
 use Rattle.multilinear.proofs.Split.{weight_split}
-use Rattle.field.specs.Field.{p, Ext, field, from_words, Holds}
+use Rattle.field.specs.Field.{p, p_pos, Ext, field, from_words, Holds}
 use Rattle.field.specs.declared.Element.{Element}
 use Rattle.field.proofs.Laws.{field_ring, read_as, read_back}
 use Rattle.table.specs.Table.{element_at, elements, table_words}
 use Rattle.table.specs.Refusals.{most}
 use Rattle.table.proofs.Laws.{elements_length, table_at, table_get, table_length}
-use Rattle.table.proofs.Parts.{elements_append, get_drop}
+use Rattle.table.proofs.Parts.{elements_append, get_drop, get_take}
 use Rattle.table.proofs.Tests.{unreduced_table}
 use Rattle.work.specs.Work.{first, others, work_words}
-use Rattle.work.specs.Inner.{Tables, row_weight}
+use Rattle.work.specs.Inner.{Tables, Apart, row_weight}
 
 -- the coordinates of both tables are all
 pub together : (k : ℕ) → first k + others k ≡ k
@@ -38,20 +38,42 @@ high_row k y h = shr_lt (first k) (others k) (rw (together k) h)
 pub low_row : (k y : ℕ) → y % 2 ^ others k < 2 ^ others k
 low_row k y = mod-lt y (pow_pos (others k))
 
--- they are in the buffer: of the rows that the code counts
-module _ (k : ℕ) (work : List ℕ) (is : Tables k work) (n0 n1 y : ℕ) (q0 : n0 ≡ 2 ^ first k) (q1 : n1 ≡ 2 ^ others k) where
-  pub high_place : y < 2 ^ k → 4 * (y / n1) + 3 < length work
-  high_place h = rw q1 (omega (arith, is.size, high_row k y h))
+-- the two tables, lent apart
+pub apart : (k : ℕ) (work : List ℕ) → Tables k work → (n0 : ℕ) → n0 ≡ 2 ^ first k → {eq0 eq1 : List ℕ} → eq0 ≡ take (4 * n0) work
+    → eq1 ≡ drop (4 * n0) work → Apart k work eq0 eq1
+apart k work is n0 q e₀ e₁ =
+    let within : 4 * 2 ^ first k ≤ length work = omega (arith, is.size) in
+    rw (e₀, e₁, q)
+    (record {
+      first_size = length-take-le (4 * 2 ^ first k) work within;
+      others_size = omega (arith, is.size, length-drop (4 * 2 ^ first k) work);
+      first_below = unreduced_take p p_pos (4 * 2 ^ first k) work is.below;
+      others_below = unreduced_drop p p_pos (4 * 2 ^ first k) work is.below;
+      first_at = λ j b. ap from_words (get_take (2 ^ first k) j work b);
+      others_at = λ j. ap from_words (get_drop (2 ^ first k) j work);
+    })
 
-  pub low_place : 4 * (n0 + y % n1) + 3 < length work
-  low_place = rw (q0, q1) (omega (arith, is.size, low_row k y))
+-- the rows that a weight reads are there, of as many rows as eq1 has
+module _ (k : ℕ) {work eq0 eq1 : List ℕ} (d : Apart k work eq0 eq1) (y : ℕ) where
+  others_rows : length eq1 / 4 ≡ 2 ^ others k
+  others_rows = omega (arith, d.others_size)
 
--- of the values that the calls give
-pub weight_of : (k : ℕ) (work : List ℕ) (n0 n1 y : ℕ) → n0 ≡ 2 ^ first k → n1 ≡ 2 ^ others k → (a b : Element) {e : Element}
-    → Holds a (element_at work (y / n1)) → Holds b (element_at work (n0 + y % n1)) → Holds e (field.mul (from_words a) (from_words b))
-    → Holds e (row_weight k work y)
-unfolding row_weight
-weight_of k work n0 n1 y q0 q1 a b e₁ e₂ e₃ = rw (read_as _ e₁, read_as _ e₂, q0, q1) at e₃
+  pub some_rows : 0 < length eq1 / 4
+  some_rows = rw others_rows (pow_pos (others k))
+
+  pub high_place : y < 2 ^ k → 4 * (y / (length eq1 / 4)) + 3 < length eq0
+  high_place h = rw others_rows (omega (arith, d.first_size, high_row k y h))
+
+  pub low_place : 4 * (y % (length eq1 / 4)) + 3 < length eq1
+  low_place = rw others_rows (omega (arith, d.others_size, low_row k y))
+
+  -- of the values that the calls give
+  pub weight_of : y < 2 ^ k → {a b e : Element} → Holds a (element_at eq0 (y / (length eq1 / 4)))
+      → Holds b (element_at eq1 (y % (length eq1 / 4))) → Holds e (field.mul (from_words a) (from_words b))
+      → Holds e (row_weight k work y)
+  unfolding row_weight
+  weight_of h {a} {b} e₁ e₂ e₃ =
+      rw (read_as _ e₁, read_as _ e₂, others_rows, d.first_at _ (high_row k y h), d.others_at (y % 2 ^ others k)) at e₃
 
 -- block h lies within the rows
 pub edge : (k h : ℕ) → h < 2 ^ first k → h * 2 ^ others k + 2 ^ others k ≤ 2 ^ k
@@ -77,26 +99,18 @@ module _ (k : ℕ) (point : List ℕ) (scale : Ext) where
 
   pub work_length : length (work_words k point scale) ≡ 4 * (2 ^ first k + 2 ^ others k)
   unfolding work_words
-  work_length =
-      omega (
-        arith,
-        length-append (table_words (2 ^ first k) eq0) (table_words (2 ^ others k) (eq_at field vs)),
-        table_length (2 ^ first k) eq0,
-        table_length (2 ^ others k) (eq_at field vs),
-      )
+  work_length = omega (arith, length-append {A = ℕ}, table_length)
 
   work_below : unreduced p (work_words k point scale) ≡ false
   unfolding work_words
-  work_below =
-      unreduced_append p (table_words (2 ^ first k) eq0) (table_words (2 ^ others k) (eq_at field vs)) (unreduced_table (2 ^ first k) eq0)
-      (unreduced_table (2 ^ others k) (eq_at field vs))
+  work_below = unreduced_append p _ _ (unreduced_table _ _) (unreduced_table _ _)
 
   pub tables : k ≤ most → Tables k (work_words k point scale)
   tables few = record { few = few; size = work_length; below = work_below }
 
   first_entry : (y : ℕ) → y < 2 ^ first k → element_at (work_words k point scale) y ≡ eq0 y
   unfolding work_words
-  first_entry y h = ap from_words (table_get (2 ^ first k) eq0 (table_words (2 ^ others k) (eq_at field vs)) y h) ∙ read_back _
+  first_entry y h = ap from_words (table_get (2 ^ first k) eq0 _ y h) ∙ read_back _
 
   second_entry : (y : ℕ) → y < 2 ^ others k → element_at (work_words k point scale) (2 ^ first k + y) ≡ eq_at field vs y
   unfolding work_words

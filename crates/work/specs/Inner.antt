@@ -1,8 +1,8 @@
 -- What the inner functions take and give. No operation that users call cites it. Assumes nothing.
-use Rattle.std.specs.Prelude.{◌≡◌, false, ℕ, ◌+◌, ◌*◌, ◌/◌, ◌%◌, ◌^◌, ◌≤◌, List, length}
+use Rattle.std.specs.Prelude.{◌≡◌, false, ℕ, ◌+◌, ◌*◌, ◌/◌, ◌%◌, ◌^◌, ◌≤◌, ◌<◌, List, length}
 use Rattle.algebra.specs.Words.{unreduced}
 use Rattle.field.specs.Field.{p, Ext, field}
-use Rattle.table.specs.Table.{element_at, table_words}
+use Rattle.table.specs.Table.{element_at, entries, table_words}
 use Rattle.table.specs.Refusals.{most}
 use Rattle.work.specs.Work.{first, others}
 
@@ -15,6 +15,15 @@ pub record Tables (k : ℕ) (work : List ℕ) : Type 0 where
   pub few : k ≤ most
   pub size : length work ≡ 4 * (2 ^ first k + 2 ^ others k)
   pub below : unreduced p work ≡ false
+
+-- the two tables of work, apart
+pub record Apart (k : ℕ) (work eq0 eq1 : List ℕ) : Type 0 where
+  pub first_size : length eq0 ≡ 4 * 2 ^ first k
+  pub others_size : length eq1 ≡ 4 * 2 ^ others k
+  pub first_below : unreduced p eq0 ≡ false
+  pub others_below : unreduced p eq1 ≡ false
+  pub first_at : (j : ℕ) → j < 2 ^ first k → element_at eq0 j ≡ element_at work j
+  pub others_at : (j : ℕ) → element_at eq1 j ≡ element_at work (2 ^ first k + j)
 
 -- the weight of row y: eq0 at its high bits, times eq1 at its low ones
 unfoldable pub row_weight : ℕ → List ℕ → ℕ → Ext
@@ -29,9 +38,13 @@ pub record Open (k : ℕ) (out : List ℕ) : Type 0 where
   pub room : length out ≡ 4 * 2 ^ k
   pub below : unreduced p out ≡ false
 
--- n elements of work from `first` on, and n of out from `from` on, all reduced
-pub record Stretch (first n from : ℕ) (work out : List ℕ) : Type 0 where
-  pub there : 4 * (first + n) ≤ length work
-  pub room : 4 * (from + n) ≤ length out
-  pub work_below : unreduced p work ≡ false
+-- as many elements of rows and of out, all reduced
+pub record Stretch (rows out : List ℕ) : Type 0 where
+  pub same : length out ≡ length rows
+  pub whole : length rows ≡ 4 * entries rows
+  pub rows_below : unreduced p rows ≡ false
   pub out_below : unreduced p out ≡ false
+
+-- out, to each element of which seed times that of rows is added
+abbrev pub gained : List ℕ → Ext → List ℕ → List ℕ
+gained rows seed out = table_words (entries rows) (λ i. field.add (element_at out i) (field.mul seed (element_at rows i)))

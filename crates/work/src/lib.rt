@@ -7,11 +7,9 @@
 ghost use Rattle.std.specs.Prelude.{◌≡◌, ◌+◌, ◌^◌, ◌<◌};
 ghost use Rattle.algebra.specs.Ring.{Ops};
 ghost use Rattle.field.specs.Field.{field, from_words, Reduced, Holds};
-ghost use Rattle.table.specs.Table.{element_at};
-ghost use Rattle.table.specs.Gained.{Gained};
 ghost use Rattle.point.specs.Coordinates.{Coordinates};
 ghost use Rattle.work.specs.Work.{work_differs, work_words};
-ghost use Rattle.work.specs.Inner.{BothTables, Tables, row_weight, accumulated, Open, Stretch};
+ghost use Rattle.work.specs.Inner.{BothTables, Tables, Apart, row_weight, accumulated, Open, Stretch, gained};
 
 use field::Element;
 use multiplier::Multiplier;
@@ -45,34 +43,40 @@ pub fn weight(work: &[u32], k: usize, y: usize) -> Element
     requires { Tables k work.now × (y < 2 ^ k) }
     ensures { Holds result (row_weight k work.now y) }
 {
-    let n0 = table::rows(k / 2);
-    let n1 = table::rows(k - k / 2);
-    table::read(work, y / n1).mul(table::read(work, n0 + y % n1))
+    let (eq0, eq1) = tables(work, k);
+    let n1 = eq1.len() / 4;
+    table::read(eq0, y / n1).mul(table::read(eq1, y % n1))
 }
 
-// out[y] gains given times the weight of row y: a product a row, and one a block.
+// out[y] gains given times the weight of row y: a product a row, and one a block of as many rows as eq1 has.
 pub fn accumulate(work: &[u32], k: usize, given: Element, out: &mut [u32])
     requires { (Tables k work.now × Reduced given) × Open k out.old }
     ensures { out.new ≡ accumulated k work.now (from_words given) out.old }
 {
-    let n0 = table::rows(k / 2);
-    let n1 = table::rows(k - k / 2);
-    for h in 0..n0 {
-        let seed = given.mul(table::read(work, h));
-        gain_table(work, n0, n1, seed, h * n1, out);
+    let (eq0, eq1) = tables(work, k);
+    let block = eq1.len();
+    for h in 0..eq0.len() / 4 {
+        let seed = given.mul(table::read(eq0, h));
+        gain(&mut out[h * block..(h + 1) * block], eq1, seed);
     }
 }
 
-// out gains, from place `from` on, seed times the n elements of work from `first` on.
-fn gain_table(work: &[u32], first: usize, n: usize, seed: Element, from: usize, out: &mut [u32])
-    requires { Stretch first n from work.now out.old × Reduced seed }
-    ensures { Gained from n (λ y. field.mul (from_words seed) (element_at work.now (first + y)))
-        out.old out.new }
+// eq0 and eq1.
+fn tables(work: &[u32], k: usize) -> (&[u32], &[u32])
+    requires { Tables k work.now }
+    ensures { Apart k work.now result.0.now result.1.now }
+{
+    work.split_at(4 * table::rows(k / 2))
+}
+
+// out gains seed times the elements of rows.
+fn gain(out: &mut [u32], rows: &[u32], seed: Element)
+    requires { Stretch rows.now out.old × Reduced seed }
+    ensures { out.new ≡ gained rows.now (from_words seed) out.old }
 {
     let m = Multiplier::new(seed);
-    for i in 0..n {
-        let e = table::read(work, first + i);
-        let sum = m.plus(table::get(out, from + i), e);
-        table::put(out, from + i, sum);
+    for i in 0..rows.len() / 4 {
+        let sum = m.plus(table::get(out, i), table::read(rows, i));
+        table::put(out, i, sum);
     }
 }

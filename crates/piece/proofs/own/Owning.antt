@@ -3,13 +3,14 @@ use mathlib.Core.Path.{◌≡◌, sym, ap, ap₂, ◌∙◌}
 use Prim.Native.Nat.{ℕ, ◌+◌, ◌-◌, ◌*◌, ◌^◌, ◌≤◌, ◌<◌}
 use native.Mathlib.Nat.{mul_comm, mul-le-mul_right}
 use native.Mathlib.Omega.{arith}
+use mathlib.Core.Logic.{◌⊎◌, inl, inr}
 use mathlib.Core.List.{List}
 use lib.ListN.{length}
 use Rattle.algebra.proofs.Ring.{zero_mul}
 use Rattle.multilinear.specs.declared.Side.{Side}
 use Rattle.multilinear.specs.declared.Side.TheVariants.{Prefix, Suffix}
 use Rattle.multilinear.specs.declared.Weight.{Weight}
-use Rattle.multilinear.specs.declared.Weight.TheVariants.{Next}
+use Rattle.multilinear.specs.declared.Weight.TheVariants.{Plain, Shifted, Next}
 use Rattle.multilinear.specs.Equality.{eq_at}
 use Rattle.multilinear.specs.Folds.{word_of}
 use Rattle.multilinear.specs.Inner.{own_row, own_weight, own_at}
@@ -31,6 +32,12 @@ pub no_own : (side : Side) (weight : Weight) (inner : ℕ) (zs : List Ext) (scal
 unfolding own_at
 no_own side weight inner zs scale f i e =
     ap (λ w. field.mul w (f (word_of side inner (2 ^ length zs) i (own_row weight (2 ^ length zs))))) e ∙ zero_mul field_ring _
+
+-- plain and shifted weights have no own row
+pub weight_none : {weight : Weight} (zs : List Ext) (scale : Ext) → (weight ≡ Plain) ⊎ (weight ≡ Shifted)
+    → own_weight field weight zs scale ≡ field.zero
+weight_none zs scale (inl e) = rw e
+weight_none zs scale (inr e) = rw e
 
 module _ {terms : Terms} {point piece out : List ℕ} {taken : ℕ} (a : Adds terms point taken piece out) where
   abbrev zs : List Ext

@@ -1,18 +1,21 @@
 -- `byte_fold::Section::add_block`. Assumes nothing.
 use Rattle.std.proofs.Common.{◌≡◌, ◌+◌, ◌-◌, arith}
+use Rattle.std.proofs.Math.Seq.{length-take-le}
 use Rattle.byte_fold.specs.Inner.{block_at}
-use Rattle.byte_fold.proofs.Blocks.{lent, takes, added}
+use Rattle.byte_fold.proofs.Blocks.{takes, added}
 use Rattle.byte_fold.proofs.Section.add_block.Goals as goal
 
 pub add-requires : goal.add-requires
 add-requires c =
-    let block : c.gather.new.block ≡ block_at c.args.self.now c.args.block.start (c.args.block.end - c.args.block.start) =
-    rw (lent c.room-room.ensures c.requires.portion.most_words) at c.gather.ensures in
+    let n = c.args.block.end - c.args.block.start in
+    let block : c.gather.new.block ≡ block_at c.args.self.now c.args.block.start n =
+    rw (length-take-le n c.args.room.now (omega (arith, c.requires.portion.most_words))) at c.gather.ensures in
     takes c.requires.cut.0 c.requires.portion block c.requires.sums_value
 
 pub returns : goal.returns
 returns c =
-    let block : c.gather.new.block ≡ block_at c.args.self.now c.args.block.start (c.args.block.end - c.args.block.start) =
-    rw (lent c.room-room.ensures c.requires.portion.most_words) at c.gather.ensures in
-    let all : c.args.block.start + (c.args.block.end - c.args.block.start) ≡ c.args.block.end = omega arith in
+    let n = c.args.block.end - c.args.block.start in
+    let block : c.gather.new.block ≡ block_at c.args.self.now c.args.block.start n =
+    rw (length-take-le n c.args.room.now (omega (arith, c.requires.portion.most_words))) at c.gather.ensures in
+    let all : c.args.block.start + n ≡ c.args.block.end = omega arith in
     rw all at (added c.requires.cut.0 c.requires.portion block c.requires.sums_value c.add.ensures)

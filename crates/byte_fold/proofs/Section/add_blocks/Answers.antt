@@ -6,7 +6,7 @@ pub add_block-requires-clause-portion : goal.add_block-requires-clause-portion
 add_block-requires-clause-portion c = first_block c.requires.0 c.first_row-first.ensures
 
 pub add_block-requires-clause-sums_value : goal.add_block-requires-clause-sums_value
-add_block-requires-clause-sums_value c = none_added c.requires.0 c.requires.1 c.clear.ensures
+add_block-requires-clause-sums_value c = none_added c.requires.0 c.requires.1
 
 pub loop-at-init : goal.loop-at-init
 loop-at-init c = first_added c.requires.0 c.first_row-first.ensures c.add_block.ensures

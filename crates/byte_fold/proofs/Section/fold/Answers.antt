@@ -1,6 +1,7 @@
 -- `byte_fold::Section::fold`: the sums stand at the front of the room. Assumes nothing.
-use Rattle.std.proofs.Common.{◌∙◌, ◌*◌, arith, sym, ap, length, ℕ}
-use Rattle.std.proofs.Math.ListN.{length-replicate}
+use Rattle.std.proofs.Common.{◌∙◌, ◌*◌, arith, sym, ap, length, take, ℕ}
+use Rattle.std.proofs.lemmas.List.{take-replicate}
+use Rattle.std.proofs.Math.ListN.{replicate, length-replicate}
 use Rattle.plan.specs.Plan.{capacity}
 use Rattle.byte_fold.specs.Inner.{most_block}
 use Rattle.byte_fold.proofs.Adding.{sums_fit, sums_size}
@@ -15,8 +16,12 @@ pub slice_bounds-sums-end : goal.slice_bounds-sums-end
 slice_bounds-sums-end c = sym (lent c.room-room.ensures (sums_fit c.requires.0 c.rows.ensures))
 
 pub add_blocks-requires : goal.add_blocks-requires
-add_blocks-requires c =
-    (c.requires.0, lent c.room-room.ensures (sums_fit c.requires.0 c.rows.ensures) ∙ ap (λ m. 4 * m) c.rows.ensures)
+add_blocks-requires c = (
+  c.requires.0,
+  ap (take (4 * c.rows.result)) c.room-room.ensures
+      ∙ take-replicate (4 * c.rows.result) most_block 0 (sums_fit c.requires.0 c.rows.ensures)
+      ∙ ap (λ m. replicate (4 * m) 0) c.rows.ensures,
+)
 
 pub encode-requires : goal.encode-requires
 encode-requires c = omega (arith, c.requires.1, sums_size c.requires.0 (capacity c.args.self.now.plan) c.add_blocks.ensures)

@@ -55,7 +55,7 @@ loop-again c =
     let n = count test in (
       omega (arith, test.loop-j-test.true),
       turn (begin n).requires.0 (places n).before.min-held.ensures (places n).rows-places.ensures (words n).rows-words.ensures n.rows-j-end.ensures
-          test.loop-j-test.true made.section_of.ensures (at test).loop-j.invariant.1 (begin n).requires.1 folded.fold_whole.ensures,
+          test.loop-j-test.true made.section.ensures (at test).loop-j.invariant.1 (begin n).requires.1 folded.fold_whole.ensures,
     )
 
 fold-whole-requires : tie.Need-fold_whole-requires invariant-loop decreases-loop
@@ -64,7 +64,7 @@ fold-whole-requires c κs =
     let test = made.before in
     let n = count test in
     fills (begin n).requires.0 (places n).before.min-held.ensures (places n).rows-places.ensures (words n).rows-words.ensures n.rows-j-end.ensures
-    test.loop-j-test.true made.section_of.ensures (at test).loop-j.invariant.1
+    test.loop-j-test.true made.section.ensures (at test).loop-j.invariant.1
 
 returns : tie.Need-returns invariant-loop decreases-loop
 returns c =

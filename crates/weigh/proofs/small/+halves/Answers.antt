@@ -1,0 +1,47 @@
+-- `weigh::small::halves` meets its contract. Assumes nothing.
+use Rattle.std.proofs.Common.{rules, arith, sym, ◌*◌, ◌≤◌, length}
+use native.Mathlib.Nat.{pos_of_ne-zero}
+use lib.Seq.{length-take-le}
+use Rattle.weigh.proofs.Halving.{one_more, one_entry}
+use Rattle.weigh.proofs.TableHalves.{half_there, low_whole, high_whole}
+use Rattle.weigh.proofs.FewVariables.{half_ready, table_joined}
+use Rattle.weigh.proofs.small.+halves.Goals as goal
+
+pub slice_bounds-halves-end : goal.slice_bounds-halves-end
+slice_bounds-halves-end g t c =
+    sym (length-take-le _ _ (rw c.WIDTH.ensures (half_there (one_more c.if-n-eq0.false) c.rows.ensures c.requires.1)))
+
+pub halves-at0-requires : goal.halves-at0-requires
+halves-at0-requires g t c κs within =
+    let e = one_more c.if-n-eq0.false in (
+      omega (arith, c.decreases, pos_of_ne-zero c.if-n-eq0.false),
+      (within, (half_ready e c.requires.0, rw c.WIDTH.ensures (low_whole e c.rows.ensures c.requires.1))),
+    )
+
+pub offset_bounds-table-half : goal.offset_bounds-table-half
+offset_bounds-table-half g t c =
+    let b : c.WIDTH.result * c.rows.result ≤ length c.args.table.now = rw c.WIDTH.ensures (half_there (one_more c.if-n-eq0.false) c.rows.ensures c.requires.1) in
+    search rules
+
+pub slice_bounds-halves-count : goal.slice_bounds-halves-count
+slice_bounds-halves-count g t c = rw c.WIDTH.ensures (half_there (one_more c.if-n-eq0.false) c.rows.ensures c.requires.1)
+
+pub slice_bounds-halves-start : goal.slice_bounds-halves-start
+slice_bounds-halves-start g t c =
+    let b : c.WIDTH.result * c.rows.result ≤ length c.args.table.now = rw c.WIDTH.ensures (half_there (one_more c.if-n-eq0.false) c.rows.ensures c.requires.1) in
+    omega arith
+
+pub halves-at1-requires : goal.halves-at1-requires
+halves-at1-requires g t c κs within =
+    let e = one_more c.if-n-eq0.false in (
+      omega (arith, c.decreases, pos_of_ne-zero c.if-n-eq0.false),
+      (within, (half_ready e c.requires.0, rw c.WIDTH.ensures (high_whole e c.rows.ensures c.requires.1))),
+    )
+
+pub returns-then-n-eq0 : goal.returns-then-n-eq0
+returns-then-n-eq0 g t c = one_entry _ _ _ c.if-n-eq0.true c.read.ensures
+
+pub returns-else-n-eq2 : goal.returns-else-n-eq2
+returns-else-n-eq2 g t c =
+    table_joined g.met.T.Entries.parted (one_more c.if-n-eq0.false) c.rows.ensures _ _ _ (rw c.WIDTH.ensures at c.halves-at0.ensures)
+    (rw c.WIDTH.ensures at c.halves-at1.ensures) c.line_at.ensures
