@@ -156,6 +156,7 @@ impl Rows {
         requires { Strided self.now table.now (length block.old) }
         ensures { block.new ≡ first_words (length block.old) (row_word self.now (words table.now)) }
     {
+        // By number: row r stands r times `inner` words on, and nothing is known of a slice that `chunks_exact_mut` lent.
         for r in 0..block.len() / self.places {
             let at = r * self.places;
             octets::decode(

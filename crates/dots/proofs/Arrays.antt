@@ -20,3 +20,14 @@ module _ {F B : Type 0} (g : Mut F (ℕ × Unit {0}) B) (P : ℕ → B → Type 
 
   pub each_given : IsFromFnResult g f ys n → (k : ℕ) → k < n → P k (get_or ys k d)
   each_given made k l = given_from 0 n refl (omega arith) made.each k (omega arith) (omega arith)
+
+-- what holds at each of seven places
+pub seven : (P : ℕ → Type 0) → P 0 → P 1 → P 2 → P 3 → P 4 → P 5 → P 6 → (k : ℕ) → k < 7 → P k
+seven P p0 p1 p2 p3 p4 p5 p6 zero l = p0
+seven P p0 p1 p2 p3 p4 p5 p6 (suc zero) l = p1
+seven P p0 p1 p2 p3 p4 p5 p6 (suc (suc zero)) l = p2
+seven P p0 p1 p2 p3 p4 p5 p6 (suc (suc (suc zero))) l = p3
+seven P p0 p1 p2 p3 p4 p5 p6 (suc (suc (suc (suc zero)))) l = p4
+seven P p0 p1 p2 p3 p4 p5 p6 (suc (suc (suc (suc (suc zero))))) l = p5
+seven P p0 p1 p2 p3 p4 p5 p6 (suc (suc (suc (suc (suc (suc zero)))))) l = p6
+seven P p0 p1 p2 p3 p4 p5 p6 (suc (suc (suc (suc (suc (suc (suc k))))))) l = absurd (omega arith)

@@ -59,9 +59,7 @@ pub fn dot_few(weights: &[u32], words: &[u32]) -> Element
     }
 }
 
-// The sum of weights[y] entries[y] over n entries of a table of elements, divided at the end alone. Its loop has the fewest instructions
-// in a function of its own.
-#[inline(never)]
+// The sum of weights[y] entries[y] over n entries of a table of elements, divided at the end alone.
 pub fn dot_ext(weights: &[u32], entries: &[u32], n: usize) -> Element
     requires { Pairs n weights.now entries.now }
     ensures { Holds result (sum_to field n
@@ -71,7 +69,7 @@ pub fn dot_ext(weights: &[u32], entries: &[u32], n: usize) -> Element
     // By index: an entry is four words of each table.
     for y in 0..n {
         let x = table::read(weights, y);
-        let more = halves::gain(sums, powers::coefficients(x, table::read(entries, y)));
+        let more = powers::gain(sums, x, table::read(entries, y));
         sums = more;
     }
     powers::settle(sums)

@@ -191,6 +191,7 @@ fn combine<P: Fn(usize) -> (usize, usize), F: Fn(Element, Element) -> Element>(
     requires { Combinable (P.pre pair) (P.post pair) (F.pre make) from to entries.old }
     ensures { Combined (P.post pair) (F.post make) from to entries.old entries.new }
 {
+    // By number: the pair of entry i is two places of one table.
     for i in from..to {
         let (first, second) = pair(i);
         let made = make(table::get(entries, first), table::get(entries, second));

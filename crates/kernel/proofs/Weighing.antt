@@ -89,7 +89,7 @@ lowered_again n ws vs word r =
     field_ring.mul_comm _ _ ∙ sym (sum_scale field_ring n (base unit_inverse) _)
     ∙ sum_ext field_ring n _ _ (λ t h. field_ring.mul_comm _ _ ∙ term _ _ (r.each t h))
 
--- a word of each of k rows of n words, and the k words of a place
+-- a word of each of k rows of n words, and words from a place on, where they are one apart or all the same
 pub row_there : {k from n : ℕ} {out words : List ℕ} (y : ℕ) → Groups k from n out words → y < n
     → There k words (record { first = y; apart = n })
 row_there {k} {from} {n} y g h =
@@ -98,11 +98,13 @@ row_there {k} {from} {n} y g h =
       below = below p _ g.words_below p_pos;
     }
 
-pub place_there : {k from n : ℕ} {out words : List ℕ} (i : ℕ) → Groups k from n out words → i < n
-    → There k words (record { first = k * i; apart = 1 })
-place_there {k} {from} {n} i g h =
+pub place_there : {k from n apart : ℕ} {out words : List ℕ} (i : ℕ) → Groups k from n out words → i < n → apart ≤ 1
+    → There k words (record { first = k * i; apart = apart })
+place_there {k} {from} {n} {apart} i g h near =
     record {
-      within = λ t l. let m : k * suc i ≤ k * n = mul-le-mul_left k (omega arith) in omega (arith, mul-suc k i, g.there);
+      within = λ t l. let m : k * suc i ≤ k * n = mul-le-mul_left k (omega arith) in
+          let a : t * apart ≤ t * 1 = mul-le-mul_left t near in
+          omega (arith, mul-suc k i, g.there);
       below = below p _ g.words_below p_pos;
     }
 

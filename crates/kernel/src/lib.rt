@@ -23,6 +23,7 @@ pub fn gain_rows<const N: usize>(
     requires reduced { Weights N weights }
     ensures { Gained from n (rows_at N weights.entry n words.now) out.old out.new }
 {
+    // By number: a turn reads words that stand n apart, and nothing is known of an element that `chunks_exact_mut` lent.
     for y in 0..n {
         let column = Strided { first: y, apart: n };
         let sum = steps::step(table::get(out, from + y), weights, words, column);
@@ -42,6 +43,7 @@ pub fn gain_groups<const N: usize>(
     requires reduced { Weights N weights }
     ensures { Gained from n (words_at N weights.entry words.now) out.old out.new }
 {
+    // By number: nothing is known of an element that `chunks_exact_mut` lent.
     for i in 0..n {
         let group = Strided {
             first: N * i,
@@ -52,14 +54,15 @@ pub fn gain_groups<const N: usize>(
     }
 }
 
-// out[i] becomes the sum of weights[t] words[N i + t] over t, for each i below n. It is not read. The weights are multiplied by 2^32 before,
-// and each sum is divided by it.
+// out[i] becomes the sum of weights[t] words[N i + t] over t, for each i below n. It is not read. The weights are multiplied by 2^32
+// before, and each sum is divided by it.
 pub fn set_groups<const N: usize>(out: &mut [u32], words: &[u32], n: usize, weights: [Element; N])
     requires groups { Groups N 0 n out.old words.now × (length out.old ≡ 4 * n) }
     requires reduced { Weights N weights }
     ensures { out.new ≡ table_words n (words_at N weights.entry words.now) }
 {
     let raised = steps::raised(weights);
+    // By number, as `gain_groups`.
     for i in 0..n {
         let group = Strided {
             first: N * i,

@@ -80,6 +80,7 @@ pub fn raised<const N: usize>(weights: [Element; N]) -> [Element; N]
     ensures { Raised N weights.entry result }
 {
     let mut raised = weights;
+    // By number, no plainer: each weight in its place.
     for t in 0..N {
         raised[t] = lowering::raise(weights[t]);
     }

@@ -20,7 +20,7 @@ pub fn eval_base(table: &[u32], point: &[u32]) -> Result<Element, Refusal>
     Ok(weigh::value(table, point, point.len() / 4))
 }
 
-// The value of a table of elements.
+// The value of a table of elements: a name of the Rust's, which C calls.
 #[tactic(auto, using(table::proofs::Outcomes::outcomes), unfolding(crate::specs::Values::eval_ext_answer))]
 pub fn eval_ext(table: &[u32], point: &[u32]) -> Result<Element, Refusal>
     ensures { outcome result ≡ eval_ext_answer table.now point.now }

@@ -13,6 +13,7 @@ use multilinear::{Side, Weight};
 use table::Refusal;
 
 // out[i] = scale sum_y eq[y] table[y inner + i].
+// A function for each side and weight: the Rust has these names, and C calls them.
 pub fn compress_prefix(
     table: &[u32],
     point: &[u32],

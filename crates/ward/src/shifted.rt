@@ -102,6 +102,7 @@ fn is_unreduced(bytes: &[u8]) -> bool
     ensures { result ≡ unreduced p (words bytes.now) }
 {
     let mut found = false;
+    // By number: the bytes behind the last whole word are no word.
     for i in 0..bytes.len() / 4 {
         found = field::or_above(found, octets::word_at(bytes, i));
     }

@@ -48,7 +48,7 @@ pub fn value(words: &[u32], point: &[u32], n: usize) -> Element
     }
 }
 
-// The value of a table of elements.
+// The value of a table of elements. Two functions, as `weigh` and `weigh_ext` are.
 pub fn value_ext(entries: &[u32], point: &[u32], n: usize) -> Element
     requires { Coordinates n point.now × WholeExt n entries.now }
     ensures { Holds result (elements_value 0 n point.now entries.now) }
@@ -71,7 +71,7 @@ pub fn weigh(words: &[u32], point: &[u32], k: usize, scale: Element) -> Element
     part(words, 0, point, 0, k - low, low, &block)
 }
 
-// The same of a table of elements, each of them there.
+// The same of a table of elements, each of them there. No plainer as one with `weigh`: of words the last may be missing.
 pub fn weigh_ext(entries: &[u32], point: &[u32], k: usize, scale: Element) -> Element
     requires { (Coordinates k point.now × Reduced scale) × WholeExt k entries.now }
     ensures { Holds result (field.mul (from_words scale) (elements_value 0 k point.now entries.now)) }
@@ -178,6 +178,7 @@ fn spanned(from: usize, len: usize, high: usize, low: usize) -> usize
     ensures { (result ≤ high) × (from % 2 ^ (result + low) + len ≤ 2 ^ (result + low)) }
 {
     let mut own = 0;
+    // A count that a test ends: no plainer as a `for`.
     while crosses(from, len, own + low) {
         own += 1;
     }

@@ -55,6 +55,7 @@ pub fn accumulate(work: &[u32], k: usize, given: Element, out: &mut [u32])
 {
     let (eq0, eq1) = tables(work, k);
     let block = eq1.len();
+    // By number: an element is four words of the buffer, read by its place as in every table.
     for h in 0..eq0.len() / 4 {
         let seed = given.mul(table::read(eq0, h));
         gain(&mut out[h * block..(h + 1) * block], eq1, seed);
@@ -75,6 +76,7 @@ fn gain(out: &mut [u32], rows: &[u32], seed: Element)
     ensures { out.new ≡ gained rows.now (from_words seed) out.old }
 {
     let m = Multiplier::new(seed);
+    // By number: nothing is known of an element that `chunks_exact_mut` lent.
     for i in 0..rows.len() / 4 {
         let sum = m.plus(table::get(out, i), table::read(rows, i));
         table::put(out, i, sum);

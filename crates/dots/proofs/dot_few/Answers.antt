@@ -19,6 +19,7 @@ from_fn-more-requires c = (
 pub returns : goal.returns
 returns c =
     let s = c.loop-i.sums in
-    let e : c.from_fn.result ≡ get_or s 0 0 % p ∷ get_or s 1 0 % p ∷ get_or s 2 0 % p ∷ get_or s 3 0 % p ∷ [] = grind (arith, common_steps) in
+    let e : c.from_fn.result ≡ get_or s 0 0 % p ∷ get_or s 1 0 % p ∷ get_or s 2 0 % p ∷ get_or s 3 0 % p ∷ [] =
+    grind (arith, common_steps) in
     let q : c.loop-i.i ≡ length c.args.words.now = omega arith in
     rw e (few_holds _ _ (rw q at c.loop-i.invariant))

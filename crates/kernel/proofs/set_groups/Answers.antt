@@ -8,13 +8,19 @@ use Rattle.kernel.proofs.set_groups.Goals as goal
 pub lowered-requires : goal.lowered-requires
 lowered-requires g c = (
   omega (arith, c.requires.reduced.few),
-  (raised_weights c.requires.reduced.few (omega arith) c.raised-raised.ensures, place_there _ c.requires.groups.0 c.loop-i-test.true),
+  (
+    raised_weights c.requires.reduced.few (omega arith) c.raised-raised.ensures,
+    place_there _ c.requires.groups.0 c.loop-i-test.true (omega arith),
+  ),
 )
 
 pub loop-i-preserved : goal.loop-i-preserved
 loop-i-preserved g c =
-    let fits : 4 * c.loop-i.i + 3 < length c.args.out.now = omega (arith, c.requires.groups.1) in
-    (omega arith, turn _ _ _ _ c.loop-i.invariant.1 fits (rw (weighed_place _ _ c.args.words.now (g.row.N * c.loop-i.i)) at c.lowered.ensures) c.put.ensures)
+    let fits : 4 * c.loop-i.i + 3 < length c.args.out.now = omega (arith, c.requires.groups.1) in (
+      omega arith,
+      turn _ _ _ _ c.loop-i.invariant.1 fits
+          (rw (weighed_place _ _ c.args.words.now (g.row.N * c.loop-i.i)) at c.lowered.ensures) c.put.ensures,
+    )
 
 pub returns : goal.returns
 returns g c =

@@ -18,17 +18,17 @@ halves-at0-requires g t c κs within =
       (within, (half_ready e c.requires.0, rw c.WIDTH.ensures (low_whole e c.rows.ensures c.requires.1))),
     )
 
-pub offset_bounds-table-half : goal.offset_bounds-table-half
-offset_bounds-table-half g t c =
-    let b : c.WIDTH.result * c.rows.result ≤ length c.args.table.now = rw c.WIDTH.ensures (half_there (one_more c.if-n-eq0.false) c.rows.ensures c.requires.1) in
-    search rules
-
 pub slice_bounds-halves-count : goal.slice_bounds-halves-count
 slice_bounds-halves-count g t c = rw c.WIDTH.ensures (half_there (one_more c.if-n-eq0.false) c.rows.ensures c.requires.1)
 
+pub offset_bounds-table-half : goal.offset_bounds-table-half
+offset_bounds-table-half g t c =
+    let b : c.WIDTH.result * c.rows.result ≤ length c.args.table.now = slice_bounds-halves-count g t c in
+    search rules
+
 pub slice_bounds-halves-start : goal.slice_bounds-halves-start
 slice_bounds-halves-start g t c =
-    let b : c.WIDTH.result * c.rows.result ≤ length c.args.table.now = rw c.WIDTH.ensures (half_there (one_more c.if-n-eq0.false) c.rows.ensures c.requires.1) in
+    let b : c.WIDTH.result * c.rows.result ≤ length c.args.table.now = slice_bounds-halves-count g t c in
     omega arith
 
 pub halves-at1-requires : goal.halves-at1-requires
