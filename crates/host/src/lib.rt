@@ -1,5 +1,6 @@
 // The operations for a host program that compares and measures them: words in slices, and 0 or the refusal's number. A scale is
-// four numbers, as in the ward's calls; an operand or an answer that is one element is an array of four words.
+// four numbers, as in the ward's calls; an operand or an answer that is one element is an array of four words. A
+// function for each operation, with its numbers one by one: the C interface needs it.
 #![tactic(auto)]
 
 mod answers;

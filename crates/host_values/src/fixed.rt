@@ -1,4 +1,4 @@
-// Fixing a variable: the count of entries that remain is lent.
+// Fixing a variable: the count of entries that remain is lent. A function for each operation: the C interface needs it.
 ghost use Rattle.std.specs.Prelude.{◌≡◌, [], ◌∷◌};
 ghost use Rattle.fixing.specs.Fixing.{Prefix, Suffix, Monomial, fix_answer, fix_out, sum_answer, sum_out};
 ghost use Rattle.host_answers.specs.Host.{element_of, answered, shown};

@@ -1,5 +1,6 @@
 // Values, fixing, last scalars and split folds for a host program that compares and measures them: words in slices, and 0 or the
 // refusal's number. A scale is four numbers, as in the ward's calls; an answer that is one element is an array of four words.
+// A function for each operation, side and weight, with its numbers one by one: the C interface needs it.
 #![tactic(auto, using(host_answers::proofs::Showing::shown_listed))]
 
 pub mod fixed;
