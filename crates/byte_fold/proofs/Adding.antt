@@ -14,7 +14,7 @@ use Rattle.plan.specs.Plan.{places, capacity}
 use Rattle.plan.proofs.Joining.{none}
 use Rattle.plan.proofs.Sections.{all_words}
 use Rattle.byte_fold.specs.declared.Section.{Section}
-use Rattle.byte_fold.specs.Inner.{Cut, Portion, most_block, first_row, first_words, sums_to}
+use Rattle.byte_fold.specs.Inner.{Portion, most_block, first_row, first_words, sums_to}
 
 -- what follows whole rows
 rest_of : (m a c : ℕ) → a % m ≡ 0 → (a + c) % m ≡ c % m
@@ -30,13 +30,13 @@ pub record Adding (s : Section) (at : ℕ) (sums : List ℕ) : Type 0 where
   pub whole : s.plan.side ≡ Prefix → at % places s.plan ≡ 0
   pub sums_are : sums ≡ sums_to s (min at (capacity s.plan))
 
-module _ {s : Section} (d : Cut s) where
+module _ (s : Section) where
   abbrev H : ℕ
   H = places s.plan
 
   -- the sums have room
   pub sums_fit : {z : ℕ} → z ≡ H → 4 * z ≤ most_block
-  sums_fit e = let le : H ≤ 2 ^ 10 = pow_mono {j = 10} d.few in omega (arith, le)
+  sums_fit e = let le : H ≤ 2 ^ 10 = pow_mono {j = 10} s.cut.few in omega (arith, le)
 
   -- no sum yet
   pub none_added : {sums : List ℕ} → sums ≡ replicate (4 * H) 0 → sums ≡ sums_to s 0
@@ -47,7 +47,7 @@ module _ {s : Section} (d : Cut s) where
   module _ {len : ℕ} (l : len ≡ first_row s.plan.side H) where
     first_few : (side : Side) → first_row side H ≤ capacity s.plan × first_row side H ≤ most_block
     first_few Prefix =
-        (pow_mono {j = s.plan.n} (omega arith), (let le : H ≤ 2 ^ 10 = pow_mono {j = 10} d.few in omega (arith, le)))
+        (pow_mono {j = s.plan.n} (omega arith), (let le : H ≤ 2 ^ 10 = pow_mono {j = 10} s.cut.few in omega (arith, le)))
     first_few Suffix = (pow_pos s.plan.n, omega arith)
 
     first_whole : s.plan.side ≡ Prefix → len % H ≡ 0
@@ -74,10 +74,10 @@ module _ {s : Section} (d : Cut s) where
     count_rows e = go (dec_lt (at + 4096) end)
       where
         go : Dec (at + 4096 < end) → (stop - at) % H ≡ 0
-        go (yes h) = let l : stop - at ≡ 4096 = omega (arith, c) in rw l (4096_is (s.plan.n - s.plan.k) d.few)
+        go (yes h) = let l : stop - at ≡ 4096 = omega (arith, c) in rw l (4096_is (s.plan.n - s.plan.k) s.cut.few)
         go (no h) =
             let l : at + (stop - at) ≡ end = omega (arith, c) in
-            sym (rest_of H at (stop - at) (a.whole e)) ∙ (rw (l, q, all_words s.plan d.sound.fits) (mul-mod_left _ H))
+            sym (rest_of H at (stop - at) (a.whole e)) ∙ (rw (l, q, all_words s.plan s.cut.sound.fits) (mul-mod_left _ H))
 
     pub block : Portion s.plan at (stop - at)
     block =
@@ -94,7 +94,7 @@ module _ {s : Section} (d : Cut s) where
     turn e =
         let m : min (at + 4096) (capacity s.plan) ≡ stop = omega (arith, c, q) in
         record {
-          whole = λ h. rest_of H at 4096 (a.whole h) ∙ 4096_is (s.plan.n - s.plan.k) d.few;
+          whole = λ h. rest_of H at 4096 (a.whole h) ∙ 4096_is (s.plan.n - s.plan.k) s.cut.few;
           sums_are = rw m e;
         }
 

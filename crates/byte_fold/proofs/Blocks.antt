@@ -14,21 +14,21 @@ use Rattle.plan.specs.Plan.{places, fold_of, gained_by}
 use Rattle.plan.specs.Sound.{Takes}
 use Rattle.plan.proofs.Joining.{joined}
 use Rattle.byte_fold.specs.declared.Section.{Section}
-use Rattle.byte_fold.specs.Inner.{most_block, Cut, Portion, first_words, section_at, block_at, sums_to}
+use Rattle.byte_fold.specs.Inner.{most_block, Portion, first_words, section_at, block_at, sums_to}
 use Rattle.byte_fold.proofs.Words.{first_length, first_below, first_append}
 
 -- the front of the room is as long as it is to be
 pub lent : {n : ℕ} {room : List ℕ} → room ≡ replicate most_block 0 → n ≤ most_block → length (take n room) ≡ n
 lent {n} {room} e h = length-take-le n room (omega (arith, ap length e ∙ length-replicate {A = ℕ} most_block 0))
 
-module _ {s : Section} {at count : ℕ} (d : Cut s) (b : Portion s.plan at count) {block sums : List ℕ}
+module _ (s : Section) {at count : ℕ} (b : Portion s.plan at count) {block sums : List ℕ}
     (e : block ≡ block_at s at count) (q : sums ≡ sums_to s at) where
   pub takes : Takes s.plan at block sums
   takes =
       record {
-        sound = d.sound;
+        sound = s.cut.sound;
         within = omega (arith, ap length e ∙ first_length count _, b.within);
-        piece_below = rw e (first_below p count _ (λ i. below p (words s.table.now) d.below p_pos _));
+        piece_below = rw e (first_below p count _ (λ i. below p (words s.table.now) s.cut.below p_pos _));
         room = ap length q ∙ table_length (places s.plan) _;
         out_below = rw q (unreduced_table (places s.plan) _);
       }

@@ -3,28 +3,54 @@ use mathlib.Core.Path.{◌≡◌, sym, ap, ◌∙◌}
 use Prim.Native.Nat.{ℕ, ◌+◌, ◌-◌, ◌*◌, ◌^◌, ◌≤◌, ◌<◌, min}
 use native.Mathlib.Nat.{mul-zero, mul-add, mul-one, mul-le-mul_left}
 use native.Mathlib.Omega.{arith}
+use mathlib.Core.Bool.{false}
 use mathlib.Core.List.{List}
 use lib.ListN.{length, get_or}
 use lib.Pow.{pow-add}
 use borrow.Rule.Slice.PartMut.{mid_of, put_mid}
-use Rattle.std.specs.Borrow.{Bor}
 use Rattle.octets.specs.Octets.{words, octets}
 use Rattle.octets.proofs.Octets.{octets_length, octets_append}
-use Rattle.field.specs.Field.{Ext, base}
+use Rattle.algebra.specs.Words.{unreduced}
+use Rattle.field.specs.Field.{p, Ext, base}
 use Rattle.table.specs.Table.{table_words}
 use Rattle.table.proofs.Laws.{table_length, table_append}
 use Rattle.plan.specs.declared.Plan.{Plan}
 use Rattle.plan.specs.Plan.{rows, places, capacity, place_of, fold_of}
-use Rattle.plan.specs.Section.{origin_of}
+use Rattle.plan.specs.Sound.{Sound}
+use Rattle.plan.specs.Section.{section_of, origin_of}
 use Rattle.plan.proofs.Sections.{all_words, places_of, section}
 use Rattle.byte_fold.specs.declared.Section.{Section}
-use Rattle.byte_fold.specs.Inner.{FillsBytes, cut_of, Cut, sums_to}
+use Rattle.byte_fold.specs.Takes.{most_held, FillsBytes, Cut}
+use Rattle.byte_fold.specs.Inner.{first_words, sums_to}
 use Rattle.byte_fold.proofs.Words.{first_at}
 use Rattle.piece.proofs.Fronts.{Front, front_start, front_lent, front_turn, front_end}
+
+-- 2^held places of a table's are a section of it
+pub cut : {plan : Plan} {held from : ℕ} {table : List ℕ} → Sound plan → held ≤ plan.n - plan.k → held ≤ most_held
+    → from + 2 ^ held ≤ places plan → length table ≡ 4 * capacity plan → unreduced p (words table) ≡ false
+    → Cut (section_of plan held) (places plan) from table
+cut {plan} {held} sound fits few within count below =
+    record {
+      sound = record {
+        small = omega (arith, sound.small, sound.fits);
+        fits = omega arith;
+        scale_is = sound.scale_is;
+        coordinates_below = sound.coordinates_below;
+      };
+      few = omega arith;
+      within = omega (arith, places_of plan held);
+      count = count ∙ ap (λ m. 4 * m) (all_words plan sound.fits);
+      below = below;
+    }
 
 -- place i of the whole fold
 abbrev whole_at : Plan → List ℕ → ℕ → Ext
 whole_at plan ws i = place_of plan (λ t. base (get_or ws t 0)) i
+
+-- the sums of a section over all its words, by what it has
+abbrev sums_by : Plan → ℕ → ℕ → List ℕ → List ℕ
+sums_by plan inner from ws =
+    fold_of plan (first_words (capacity plan) (λ t. get_or ws (origin_of plan.side inner (rows plan) (places plan) from t) 0))
 
 bytes_of : (m : ℕ) (f : ℕ → Ext) → length (octets (table_words m f)) ≡ 16 * m
 bytes_of m f = omega (arith, octets_length (table_words m f), table_length m f)
@@ -33,11 +59,8 @@ bytes_of m f = omega (arith, octets_length (table_words m f), table_length m f)
 pub record Joined (plan : Plan) (ws : List ℕ) (m : ℕ) (was out : List ℕ) : Type 0 where
   pub front : Front (16 * m) (octets (table_words m (whole_at plan ws))) was out
 
-module _ {plan : Plan} (lent : Bor (List ℕ)) {was : List ℕ} (s : FillsBytes plan lent.now was) {held size count : ℕ}
+module _ {plan : Plan} {table was : List ℕ} (s : FillsBytes plan table was) {held size count : ℕ}
     (h : held ≡ min (plan.n - plan.k) 10) (r : size ≡ 2 ^ held) (c : count ≡ 2 ^ (plan.n - plan.k - held)) where
-  abbrev table : List ℕ
-  table = lent.now
-
   pub start : Joined plan (words table) (size * 0) was was
   unfolding octets table_words
   start = record { front = rw (mul-zero size) (front_start was) }
@@ -48,7 +71,7 @@ module _ {plan : Plan} (lent : Bor (List ℕ)) {was : List ℕ} (s : FillsBytes 
       rw (r, c) (sym (pow-add 2 held (plan.n - plan.k - held)) ∙ ap (λ m. 2 ^ m) q)
 
   module _ {j : ℕ} (b : j < count) where
-    within : size * j + size ≤ places plan
+    pub within : size * j + size ≤ places plan
     within =
         let le : size * (j + 1) ≤ size * count = mul-le-mul_left {m = j + 1} {n = count} size (omega arith) in
         omega (arith, all_places, mul-add size j 1, mul-one size)
@@ -56,39 +79,26 @@ module _ {plan : Plan} (lent : Bor (List ℕ)) {was : List ℕ} (s : FillsBytes 
     pub part_within : 16 * (size * j) + 16 * size ≤ length was
     part_within = omega (arith, within, s.room)
 
-    module _ {σ : Section} (e : σ ≡ cut_of plan lent held (size * j)) where
-      pub cut : Cut σ
-      cut =
-          rw e
-          (record {
-            sound = record {
-              small = omega (arith, s.sound.small, s.sound.fits, h);
-              fits = omega arith;
-              scale_is = s.sound.scale_is;
-              coordinates_below = s.sound.coordinates_below;
-            };
-            few = omega (arith, h);
-            within = omega (arith, within, r, places_of plan held);
-            count = s.count ∙ ap (λ m. 4 * m) (all_words plan s.sound.fits);
-            below = s.below;
-          })
+    abbrev a : ℕ
+    a = 16 * (size * j)
 
+    -- the section that is made
+    module _ (σ : Section) (ep : σ.plan ≡ section_of plan held) (ei : σ.inner ≡ places plan) (ef : σ.from ≡ size * j)
+        (et : σ.table.now ≡ table) where
       module _ {out : List ℕ} (d : Joined plan (words table) (size * j) was out) where
-        abbrev a : ℕ
-        a = 16 * (size * j)
-
         pub part : length (mid_of a (a + 16 * size - a) out) ≡ 16 * places σ.plan
         part =
             front_lent d.front (16 * size) part_within
-            ∙ ap (λ m. 16 * m) (r ∙ sym (places_of plan held) ∙ ap (λ (x : Section). places x.plan) (sym e))
+            ∙ ap (λ m. 16 * m) (r ∙ sym (places_of plan held) ∙ ap places (sym ep))
 
         pub turn : {ys : List ℕ} → ys ≡ octets (sums_to σ (capacity σ.plan))
             → Joined plan (words table) (size * (j + 1)) was (put_mid a (a + 16 * size - a) out ys)
         turn {ys} q =
             let more : size * (j + 1) ≡ size * j + size = mul-add size j 1 ∙ ap (λ m. size * j + m) (mul-one size) in
             let next : a + 16 * size ≡ 16 * (size * j + size) = omega arith in
+            let all : ys ≡ octets (sums_by σ.plan σ.inner σ.from (words σ.table.now)) = q in
             let row : ys ≡ octets (table_words size (λ i. whole_at plan (words table) (size * j + i))) =
-            q ∙ ap (λ (x : Section). octets (sums_to x (capacity x.plan))) e
+            (rw (ep, ei, ef, et) at all)
             ∙ ap octets
             (section plan held (size * j) (λ t. base (get_or (words table) t 0)) _
             (λ t l. ap base

@@ -1,43 +1,17 @@
 -- What the functions take and give. No operation that users call cites it. Assumes nothing.
-use Rattle.std.specs.Prelude.{◌≡◌, false, ℕ, zero, suc, ◌+◌, ◌-◌, ◌*◌, ◌/◌, ◌%◌, ◌≤◌, ◌<◌, List, [], ◌∷◌, length, get_or}
-use Rattle.std.specs.Borrow.{Bor}
+use Rattle.std.specs.Prelude.{◌≡◌, ℕ, zero, suc, ◌+◌, ◌-◌, ◌*◌, ◌/◌, ◌%◌, ◌≤◌, ◌<◌, List, [], ◌∷◌, length, get_or}
 use Rattle.octets.specs.Octets.{words}
-use Rattle.algebra.specs.Words.{unreduced}
 use Rattle.multilinear.specs.declared.Side.{Side}
 use Rattle.multilinear.specs.declared.Side.TheVariants.{Prefix, Suffix}
-use Rattle.field.specs.Field.{p}
 use Rattle.plan.specs.declared.Plan.{Plan}
 use Rattle.plan.specs.Plan.{rows, places, capacity, fold_of}
-use Rattle.plan.specs.Sound.{Sound}
-use Rattle.plan.specs.Section.{section_of, origin_of}
+use Rattle.plan.specs.Section.{origin_of}
 use Rattle.byte_fold.specs.declared.Section.{Section}
 use Rattle.byte_fold.specs.declared.Rows.{Rows}
 
--- most places whose sums are held at a time, as variables, and most words of a block
-abbrev pub most_held : ℕ
-most_held = 10
-
+-- most words of a block, and of the sums that are held at a time
 abbrev pub most_block : ℕ
 most_block = 4096
-
--- a sound plan's whole table in bytes, reduced, and the bytes of an element of out for each place
-pub record FillsBytes (plan : Plan) (table out : List ℕ) : Type 0 where
-  pub sound : Sound plan
-  pub count : length table ≡ 4 * capacity plan
-  pub below : unreduced p (words table) ≡ false
-  pub room : length out ≡ 16 * places plan
-
--- 2^held places of the fold of a table in bytes, from place `from` on
-abbrev pub cut_of : Plan → Bor (List ℕ) → ℕ → ℕ → Section
-cut_of plan table held from = record { plan = section_of plan held; inner = places plan; from = from; table = table }
-
--- a section of a table in bytes: a sound plan of few places, those from `from` on of the table's `inner` ones
-pub record Cut (s : Section) : Type 0 where
-  pub sound : Sound s.plan
-  pub few : s.plan.n - s.plan.k ≤ most_held
-  pub within : s.from + places s.plan ≤ s.inner
-  pub count : length s.table.now ≡ 4 * (rows s.plan * s.inner)
-  pub below : unreduced p (words s.table.now) ≡ false
 
 -- f 0, f 1, .. f (n - 1)
 unfoldable pub first_words : ℕ → (ℕ → ℕ) → List ℕ

@@ -5,20 +5,21 @@
 //     words    | block | block | ..
 #![tactic(auto)]
 
-ghost use Rattle.std.specs.Prelude.{◌≡◌, ◌+◌, ◌-◌, ◌*◌, ◌≤◌, length, replicate};
+ghost use Rattle.std.specs.Prelude.{◌≡◌, false, ◌+◌, ◌-◌, ◌*◌, ◌^◌, ◌≤◌, length, replicate};
 ghost use Rattle.octets.specs.Octets.{words, octets};
+ghost use Rattle.algebra.specs.Words.{unreduced};
+ghost use Rattle.field.specs.Field.{p};
 ghost use Rattle.plan.specs.Plan.{places, capacity, fold_of};
 ghost use Rattle.plan.specs.Sound.{Sound};
-ghost use Rattle.byte_fold.specs.Inner.{most_block, FillsBytes, cut_of, Cut, block_at, sums_to, Portion, first_row, first_words, Strided, row_word};
+ghost use Rattle.plan.specs.Section.{section_of};
+ghost use Rattle.byte_fold.specs.Takes.{most_held, FillsBytes, Cut};
 
 use multilinear::Side;
+use piece::sections::HELD;
 use plan::Plan;
 use std::ops::Range;
 
-// The most places whose sums are held at a time, as variables.
-const HELD: usize = 10;
-
-// The most words of a block.
+// The most words of a block, and of the sums that are held at a time.
 const BLOCK: usize = 4096;
 
 // The places from `from` on of a table of `inner` places, as many as the plan has, and that table.
@@ -28,6 +29,7 @@ struct Section<'a> {
     inner: usize,
     from: usize,
     table: &'a [u8],
+    ghost cut: { Cut plan inner from table.now },
 }
 
 // Rows of `places` words that stand `inner` words apart, from word `start` on.
@@ -45,7 +47,8 @@ pub fn compress(plan: Plan, table: &[u8], out: &mut [u8])
 {
     let held = (plan.n - plan.k).min(HELD);
     let places = table::rows(held);
-    // No plainer: nothing is known of a slice that `chunks_exact_mut` lent.
+    // By number: of the parts that `chunks_exact_mut` lends nothing is known, so that the proof does not close.
+    // `piece::sections` has the same loop of words at hand; this one is of bytes, whose sections are read in blocks.
     for j in 0..table::rows(plan.n - plan.k - held) {
         let from = places * j;
         let start = 16 * from;
@@ -56,17 +59,23 @@ pub fn compress(plan: Plan, table: &[u8], out: &mut [u8])
 }
 
 impl<'a> Section<'a> {
+    ghost use Rattle.byte_fold.specs.Inner.{block_at, sums_to, Portion, first_row};
+
     // 2^held places of a fold, from place `from` on.
     fn new(plan: Plan, table: &'a [u8], held: usize, from: usize) -> Section<'a>
-        requires { Sound plan × (held ≤ plan.n - plan.k) }
-        ensures { result ≡ cut_of plan table.exit held from }
+        requires sound { Sound plan }
+        requires few { (held ≤ plan.n - plan.k) × (held ≤ most_held) }
+        requires within { from + 2 ^ held ≤ places plan }
+        requires count { length table.now ≡ 4 * capacity plan }
+        requires below { unreduced p (words table.now) ≡ false }
+        ensures plan { result.plan ≡ section_of plan held }
+        ensures inner { result.inner ≡ places plan }
+        ensures from { result.from ≡ from }
+        ensures table { result.table.now ≡ table.now }
     {
         Section {
-            plan: Plan {
-                n: plan.k + held,
-                ..plan
-            },
-            inner: table::rows(plan.n - plan.k),
+            plan: plan.section(held),
+            inner: plan.places(),
             from,
             table,
         }
@@ -74,11 +83,11 @@ impl<'a> Section<'a> {
 
     // The section's places, in its part of out.
     fn fold(&self, out: &mut [u8])
-        requires { Cut self.now × (length out.old ≡ 16 * places self.now.plan) }
+        requires { length out.old ≡ 16 * places self.now.plan }
         ensures { out.new ≡ octets (sums_to self.now (capacity self.now.plan)) }
     {
-        let mut room = room();
-        let sums = &mut room[..4 * table::rows(self.plan.n - self.plan.k)];
+        let mut room = table::zeros::<BLOCK>();
+        let sums = &mut room[..4 * self.plan.places()];
         self.add_blocks(sums);
         octets::encode(sums, out);
     }
@@ -86,12 +95,12 @@ impl<'a> Section<'a> {
     // The sums of the section's places, from none on, gain block after block. A shifted row's weight is that of the row before, so blocks that start a
     // row late have the weights of whole blocks of rows; the first row weighs nothing.
     fn add_blocks(&self, sums: &mut [u32])
-        requires { Cut self.now × (sums.old ≡ replicate (4 * places self.now.plan) 0) }
+        requires { sums.old ≡ replicate (4 * places self.now.plan) 0 }
         ensures { sums.new ≡ sums_to self.now (capacity self.now.plan) }
     {
-        let end = table::rows(self.plan.n);
+        let end = self.plan.words();
         let first = self.first_row();
-        let mut room = room();
+        let mut room = table::zeros::<BLOCK>();
         self.add_block(0..first, &mut room, sums);
         for at in (first..end).step_by(BLOCK) {
             self.add_block(at..end.min(at + BLOCK), &mut room, sums);
@@ -100,18 +109,17 @@ impl<'a> Section<'a> {
 
     // The words of the first row that come first: all of it, or the first place's one.
     fn first_row(&self) -> usize
-        requires { Cut self.now }
         ensures { result ≡ first_row self.now.plan.side (places self.now.plan) }
     {
         match self.plan.side {
-            Side::Prefix => table::rows(self.plan.n - self.plan.k),
+            Side::Prefix => self.plan.places(),
             Side::Suffix => 1,
         }
     }
 
     // The sums gain a block, which is read into the room.
     fn add_block(&self, block: Range<usize>, room: &mut [u32; BLOCK], sums: &mut [u32])
-        requires cut { Cut self.now × (block.start ≤ block.end) }
+        requires order { block.start ≤ block.end }
         requires portion { Portion self.now.plan block.start (block.end - block.start) }
         requires sums_value { sums.old ≡ sums_to self.now block.start }
         ensures { sums.new ≡ sums_to self.now block.end }
@@ -124,17 +132,13 @@ impl<'a> Section<'a> {
 
     // Fills block with the section's words from word `at` on.
     fn gather(&self, at: usize, block: &mut [u32])
-        requires { Cut self.now × Portion self.now.plan at (length block.old) }
+        requires { Portion self.now.plan at (length block.old) }
         ensures { block.new ≡ block_at self.now at (length block.old) }
     {
         match self.plan.side {
-            Side::Suffix => octets::decode(
-                self.table,
-                self.from * table::rows(self.plan.k) + at,
-                block,
-            ),
+            Side::Suffix => octets::decode(self.table, self.from * self.plan.rows() + at, block),
             Side::Prefix => {
-                let own = table::rows(self.plan.n - self.plan.k);
+                let own = self.plan.places();
                 if own == self.inner {
                     octets::decode(self.table, at, block);
                 } else {
@@ -151,12 +155,14 @@ impl<'a> Section<'a> {
 }
 
 impl Rows {
+    ghost use Rattle.byte_fold.specs.Inner.{first_words, Strided, row_word};
+
     // Fills block with these rows of the table.
     fn gather(&self, table: &[u8], block: &mut [u32])
         requires { Strided self.now table.now (length block.old) }
         ensures { block.new ≡ first_words (length block.old) (row_word self.now (words table.now)) }
     {
-        // By number: row r stands r times `inner` words on, and nothing is known of a slice that `chunks_exact_mut` lent.
+        // By number: of the parts that `chunks_exact_mut` lends nothing is known, so that the proof does not close.
         for r in 0..block.len() / self.places {
             let at = r * self.places;
             octets::decode(
@@ -166,11 +172,4 @@ impl Rows {
             );
         }
     }
-}
-
-// The words of a block, or of the places that are held.
-fn room() -> [u32; BLOCK]
-    ensures { result ≡ replicate most_block 0 }
-{
-    [0u32; BLOCK]
 }

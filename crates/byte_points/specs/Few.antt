@@ -3,6 +3,7 @@ use Rattle.std.specs.Prelude.{◌≡◌, ℕ, ◌*◌, ◌%◌, ◌≤◌, List,
 use Rattle.table.specs.Refusals.{most}
 
 -- the bytes of at most 20 coordinates
+-- A clause: callers lend the bytes, which are tested and then decoded.
 pub record Few (point : List ℕ) : Type 0 where
   pub whole : length point % 16 ≡ 0
   pub few : length point ≤ 16 * most

@@ -69,7 +69,7 @@ fn at_vertex(point: &[u8], vertex: usize) -> Result<Element, Refusal>
     requires { Few point.now }
     ensures { outcome result ≡ vertex_of_words (words point.now) vertex }
 {
-    let mut room = plan::room();
+    let mut room = table::zeros::<WORDS>();
     point::equality::equality_at_vertex(coordinates(point, &mut room), vertex)
 }
 
@@ -77,8 +77,8 @@ fn next_of(point: &[u8], other: &[u8]) -> Result<Parts, Refusal>
     requires { Few point.now × Few other.now }
     ensures { next_outcome result ≡ next_of_words (words point.now) (words other.now) }
 {
-    let mut room = plan::room();
-    let mut other_room = plan::room();
+    let mut room = table::zeros::<WORDS>();
+    let mut other_room = table::zeros::<WORDS>();
     next::eval_next(
         coordinates(point, &mut room),
         coordinates(other, &mut other_room),

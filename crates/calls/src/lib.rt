@@ -9,8 +9,17 @@ use std::error::Error;
 use std::fmt;
 use table::Refusal;
 
+// By what a call takes beside the slices that it reads.
 #[derive(Clone, Copy, Debug, PartialEq, Eq)]
 pub enum Operation {
+    OnPoints(OnPoints),
+    OnSplit(OnSplit),
+    OnTable(OnTable),
+}
+
+// Nothing but out.
+#[derive(Clone, Copy, Debug, PartialEq, Eq)]
+pub enum OnPoints {
     EqualityAtVertex,
     EqualityWeightsMsb,
     EqualityWeightsLsb,
@@ -24,15 +33,25 @@ pub enum Operation {
     PolyEvalBase,
     PolyEvalExt,
     PolyEvalNextBase,
-    SplitEvalBase,
-    SplitEvalExt,
-    SplitEvalNextBase,
+}
+
+// A work buffer.
+#[derive(Clone, Copy, Debug, PartialEq, Eq)]
+pub enum OnSplit {
+    EvalBase,
+    EvalExt,
+    EvalNextBase,
     LastScalar,
     AccumulateInto,
     CompressPrefix,
     CompressSuffix,
     CompressPrefixShifted,
     CompressSuffixShifted,
+}
+
+// The table that it changes.
+#[derive(Clone, Copy, Debug, PartialEq, Eq)]
+pub enum OnTable {
     FixPrefixVarMut,
     FixSuffixVarMut,
     FixPrefixVarMutMonomial,
@@ -56,32 +75,32 @@ impl TryFrom<u32> for Operation {
 
     fn try_from(number: u32) -> Result<Self, UnknownOperation> {
         Ok(match number {
-            1 => Operation::EqualityAtVertex,
-            2 => Operation::EqualityWeightsMsb,
-            3 => Operation::EqualityWeightsLsb,
-            4 => Operation::EvalEq,
-            5 => Operation::EvalNext,
-            6 => Operation::EvalSelect,
-            7 => Operation::NewFromPoint,
-            8 => Operation::NewNextFromPoint,
-            9 => Operation::EvalEqBatch,
-            10 => Operation::EvalEqBatchAdd,
-            11 => Operation::PolyEvalBase,
-            12 => Operation::PolyEvalExt,
-            13 => Operation::PolyEvalNextBase,
-            14 => Operation::SplitEvalBase,
-            15 => Operation::SplitEvalExt,
-            16 => Operation::SplitEvalNextBase,
-            17 => Operation::LastScalar,
-            18 => Operation::AccumulateInto,
-            19 => Operation::CompressPrefix,
-            20 => Operation::CompressSuffix,
-            21 => Operation::CompressPrefixShifted,
-            22 => Operation::CompressSuffixShifted,
-            23 => Operation::FixPrefixVarMut,
-            24 => Operation::FixSuffixVarMut,
-            25 => Operation::FixPrefixVarMutMonomial,
-            26 => Operation::SumPrefixVarMut,
+            1 => Operation::OnPoints(OnPoints::EqualityAtVertex),
+            2 => Operation::OnPoints(OnPoints::EqualityWeightsMsb),
+            3 => Operation::OnPoints(OnPoints::EqualityWeightsLsb),
+            4 => Operation::OnPoints(OnPoints::EvalEq),
+            5 => Operation::OnPoints(OnPoints::EvalNext),
+            6 => Operation::OnPoints(OnPoints::EvalSelect),
+            7 => Operation::OnPoints(OnPoints::NewFromPoint),
+            8 => Operation::OnPoints(OnPoints::NewNextFromPoint),
+            9 => Operation::OnPoints(OnPoints::EvalEqBatch),
+            10 => Operation::OnPoints(OnPoints::EvalEqBatchAdd),
+            11 => Operation::OnPoints(OnPoints::PolyEvalBase),
+            12 => Operation::OnPoints(OnPoints::PolyEvalExt),
+            13 => Operation::OnPoints(OnPoints::PolyEvalNextBase),
+            14 => Operation::OnSplit(OnSplit::EvalBase),
+            15 => Operation::OnSplit(OnSplit::EvalExt),
+            16 => Operation::OnSplit(OnSplit::EvalNextBase),
+            17 => Operation::OnSplit(OnSplit::LastScalar),
+            18 => Operation::OnSplit(OnSplit::AccumulateInto),
+            19 => Operation::OnSplit(OnSplit::CompressPrefix),
+            20 => Operation::OnSplit(OnSplit::CompressSuffix),
+            21 => Operation::OnSplit(OnSplit::CompressPrefixShifted),
+            22 => Operation::OnSplit(OnSplit::CompressSuffixShifted),
+            23 => Operation::OnTable(OnTable::FixPrefixVarMut),
+            24 => Operation::OnTable(OnTable::FixSuffixVarMut),
+            25 => Operation::OnTable(OnTable::FixPrefixVarMutMonomial),
+            26 => Operation::OnTable(OnTable::SumPrefixVarMut),
             _ => return Err(UnknownOperation(number)),
         })
     }
@@ -91,44 +110,34 @@ impl Operation {
     // The words of an answer that is elements or a count; none where out is a table.
     fn words(self) -> Option<usize> {
         match self {
-            Operation::EqualityAtVertex | Operation::EvalEq | Operation::EvalSelect => Some(4),
-            Operation::PolyEvalBase | Operation::PolyEvalExt | Operation::PolyEvalNextBase => {
-                Some(4)
-            }
-            Operation::SplitEvalBase | Operation::SplitEvalExt | Operation::SplitEvalNextBase => {
-                Some(4)
-            }
-            Operation::LastScalar => Some(4),
-            Operation::EvalNext => Some(12),
-            Operation::FixPrefixVarMut | Operation::FixSuffixVarMut => Some(1),
-            Operation::FixPrefixVarMutMonomial | Operation::SumPrefixVarMut => Some(1),
-            _ => None,
+            Operation::OnPoints(operation) => operation.words(),
+            Operation::OnSplit(operation) => operation.words(),
+            Operation::OnTable(_) => Some(1),
         }
     }
+}
 
-    // The operations with a work buffer or a table that they change.
-    pub fn has_work(self) -> bool {
-        self.is_on_split() || self.is_fixing()
-    }
-
-    fn is_on_split(self) -> bool {
+impl OnPoints {
+    fn words(self) -> Option<usize> {
         match self {
-            Operation::SplitEvalBase | Operation::SplitEvalExt | Operation::SplitEvalNextBase => {
-                true
-            }
-            Operation::LastScalar | Operation::AccumulateInto => true,
-            Operation::CompressPrefix | Operation::CompressSuffix => true,
-            Operation::CompressPrefixShifted | Operation::CompressSuffixShifted => true,
-            _ => false,
+            OnPoints::EqualityAtVertex | OnPoints::EvalEq | OnPoints::EvalSelect => Some(4),
+            OnPoints::PolyEvalBase | OnPoints::PolyEvalExt | OnPoints::PolyEvalNextBase => Some(4),
+            OnPoints::EvalNext => Some(12),
+            OnPoints::EqualityWeightsMsb | OnPoints::EqualityWeightsLsb => None,
+            OnPoints::NewFromPoint | OnPoints::NewNextFromPoint => None,
+            OnPoints::EvalEqBatch | OnPoints::EvalEqBatchAdd => None,
         }
     }
+}
 
-    // The operations that change the table which they are lent.
-    pub fn is_fixing(self) -> bool {
+impl OnSplit {
+    fn words(self) -> Option<usize> {
         match self {
-            Operation::FixPrefixVarMut | Operation::FixSuffixVarMut => true,
-            Operation::FixPrefixVarMutMonomial | Operation::SumPrefixVarMut => true,
-            _ => false,
+            OnSplit::EvalBase | OnSplit::EvalExt | OnSplit::EvalNextBase => Some(4),
+            OnSplit::LastScalar => Some(4),
+            OnSplit::AccumulateInto => None,
+            OnSplit::CompressPrefix | OnSplit::CompressSuffix => None,
+            OnSplit::CompressPrefixShifted | OnSplit::CompressSuffixShifted => None,
         }
     }
 }
@@ -156,81 +165,86 @@ fn called(
     if let Some(words) = operation.words() {
         table::refuse_if(out.len() != words, Refusal::Lengths)?;
     }
-    if operation.is_on_split() {
-        return on_split(operation, given, work, out);
+    match operation {
+        Operation::OnPoints(operation) => on_points(operation, given, out),
+        Operation::OnSplit(operation) => on_split(operation, given, work, out),
+        Operation::OnTable(operation) => {
+            let entries = on_table(operation, given, work)?;
+            put(out, &[(entries % 4294967296) as u32])
+        }
     }
-    if operation.is_fixing() {
-        let entries = on_table(operation, given, work)?;
-        return put(out, &[(entries % 4294967296) as u32]);
-    }
-    on_points(operation, given, out)
 }
 
-// The operations on one or two slices.
-fn on_points(operation: Operation, given: Given, out: &mut [u32]) -> Result<(), Refusal> {
+// The operations on one or two slices. A match, here and in the next two: each operation takes arguments of its own, so that closures in
+// a table are no plainer.
+fn on_points(operation: OnPoints, given: Given, out: &mut [u32]) -> Result<(), Refusal> {
     let Given { a, b, number, .. } = given;
     match operation {
-        Operation::EqualityAtVertex => {
+        OnPoints::EqualityAtVertex => {
             let value = equality::equality_at_vertex(a, number as usize)?;
             put(out, &value.c)
         }
-        Operation::EqualityWeightsMsb => equality::equality_weights_msb(a, out),
-        Operation::EqualityWeightsLsb => equality::equality_weights_lsb(a, out),
-        Operation::EvalEq => put(out, &next::eval_eq(a, b)?.c),
-        Operation::EvalNext => {
+        OnPoints::EqualityWeightsMsb => equality::equality_weights_msb(a, out),
+        OnPoints::EqualityWeightsLsb => equality::equality_weights_lsb(a, out),
+        OnPoints::EvalEq => put(out, &next::eval_eq(a, b)?.c),
+        OnPoints::EvalNext => {
             let parts = next::eval_next(a, b)?;
             put(
                 out,
                 [parts.carry.c, parts.done.c, parts.omega.c].as_flattened(),
             )
         }
-        Operation::EvalSelect => put(out, &point::select::eval_select(number, a)?.c),
-        Operation::NewFromPoint => poly::new_from_point(a, element(b)?, out),
-        Operation::NewNextFromPoint => poly::new_next_from_point(a, out),
-        Operation::EvalEqBatch => eq_batch::eval_eq_batch(number as usize, a, b, out),
-        Operation::EvalEqBatchAdd => eq_batch::eval_eq_batch_add(number as usize, a, b, out),
-        Operation::PolyEvalBase => put(out, &poly::value::eval_base(a, b)?.c),
-        Operation::PolyEvalExt => put(out, &poly::value::eval_ext(a, b)?.c),
-        _ => put(out, &poly::value::eval_next_base(a, b)?.c),
+        OnPoints::EvalSelect => put(out, &point::select::eval_select(number, a)?.c),
+        OnPoints::NewFromPoint => poly::new_from_point(a, element(b)?, out),
+        OnPoints::NewNextFromPoint => poly::new_next_from_point(a, out),
+        OnPoints::EvalEqBatch => eq_batch::eval_eq_batch(number as usize, a, b, out),
+        OnPoints::EvalEqBatchAdd => eq_batch::eval_eq_batch_add(number as usize, a, b, out),
+        OnPoints::PolyEvalBase => put(out, &poly::value::eval_base(a, b)?.c),
+        OnPoints::PolyEvalExt => put(out, &poly::value::eval_ext(a, b)?.c),
+        OnPoints::PolyEvalNextBase => put(out, &poly::value::eval_next_base(a, b)?.c),
     }
 }
 
 // The operations with work.
 fn on_split(
-    operation: Operation,
+    operation: OnSplit,
     given: Given,
     work: &mut [u32],
     out: &mut [u32],
 ) -> Result<(), Refusal> {
     let Given { a, b, c, .. } = given;
     match operation {
-        Operation::SplitEvalBase => put(out, &value::eval_base(a, b, element(c)?, work)?.c),
-        Operation::SplitEvalExt => put(out, &value::eval_ext(a, b, element(c)?, work)?.c),
-        Operation::SplitEvalNextBase => {
-            put(out, &value::eval_next_base(a, b, element(c)?, work)?.c)
-        }
-        Operation::LastScalar => put(out, &scalar::last_scalar(a, element(b)?, work)?.c),
-        Operation::AccumulateInto => {
+        OnSplit::EvalBase => put(out, &value::eval_base(a, b, element(c)?, work)?.c),
+        OnSplit::EvalExt => put(out, &value::eval_ext(a, b, element(c)?, work)?.c),
+        OnSplit::EvalNextBase => { put(out, &value::eval_next_base(a, b, element(c)?, work)?.c) }
+        OnSplit::LastScalar => put(out, &scalar::last_scalar(a, element(b)?, work)?.c),
+        OnSplit::AccumulateInto => {
             scalar::accumulate_into(a, element(b)?, element(c)?, work, out)
         }
-        Operation::CompressPrefix => fold::compress_prefix(a, b, element(c)?, work, out),
-        Operation::CompressSuffix => fold::compress_suffix(a, b, element(c)?, work, out),
-        Operation::CompressPrefixShifted => {
+        OnSplit::CompressPrefix => fold::compress_prefix(a, b, element(c)?, work, out),
+        OnSplit::CompressSuffix => fold::compress_suffix(a, b, element(c)?, work, out),
+        OnSplit::CompressPrefixShifted => {
             fold::compress_prefix_shifted(a, b, element(c)?, work, out)
         }
-        _ => fold::compress_suffix_shifted(a, b, element(c)?, work, out),
+        OnSplit::CompressSuffixShifted => fold::compress_suffix_shifted(
+            a,
+            b,
+            element(c)?,
+            work,
+            out,
+        ),
     }
 }
 
 // The operations that change a table: the entries that remain.
-fn on_table(operation: Operation, given: Given, table: &mut [u32]) -> Result<usize, Refusal> {
+fn on_table(operation: OnTable, given: Given, table: &mut [u32]) -> Result<usize, Refusal> {
     match operation {
-        Operation::FixPrefixVarMut => fixing::fix_prefix_var_mut(table, element(given.a)?),
-        Operation::FixSuffixVarMut => fixing::fix_suffix_var_mut(table, element(given.a)?),
-        Operation::FixPrefixVarMutMonomial => {
+        OnTable::FixPrefixVarMut => fixing::fix_prefix_var_mut(table, element(given.a)?),
+        OnTable::FixSuffixVarMut => fixing::fix_suffix_var_mut(table, element(given.a)?),
+        OnTable::FixPrefixVarMutMonomial => {
             fixing::fix_prefix_var_mut_monomial(table, element(given.a)?)
         }
-        _ => fixing::sum_prefix_var_mut(table),
+        OnTable::SumPrefixVarMut => fixing::sum_prefix_var_mut(table),
     }
 }
 

@@ -1,10 +1,12 @@
 -- The sums of the coordinates of products with base words: what they are at the start, what they gain, and that there is room for them.
 -- Assumes nothing.
 use mathlib.Core.Path.{◌≡◌, refl, sym, ap, ◌∙◌}
-use Prim.Native.Nat.{ℕ, suc, ◌+◌, ◌*◌, ◌≤◌, ◌<◌}
+use Prim.Native.Nat.{ℕ, suc, ◌+◌, ◌-◌, ◌*◌, ◌≤◌, ◌<◌}
 use native.Mathlib.Omega.{arith}
 use mathlib.Core.List.{List}
-use lib.ListN.{length, get_or}
+use lib.ListN.{length, get_or, take, drop}
+use lib.Seq.{get_or-take, get_or-drop}
+use Rattle.std.proofs.lemmas.List.{length-take}
 use Rattle.algebra.proofs.Words.{below}
 use Rattle.field.specs.Field.{p, p_pos}
 use Rattle.dots.specs.declared.halves.Halves.{Halves}
@@ -14,6 +16,12 @@ use Rattle.dots.specs.Inner.{value, Within, Grown, coordinate, Gains, Kept, Summ
 -- two words that are multiplied are below p
 pub both_below : {weights words : List ℕ} → Dots weights words → (j i : ℕ) → (get_or weights j 0 < p) × (get_or words i 0 < p)
 both_below {weights} {words} h j i = (below p weights h.weights_below p_pos j, below p words h.words_below p_pos i)
+
+-- word j of n from i on
+pub at_part : (xs : List ℕ) (i n j : ℕ) → j < length (take (i + n - i) (drop i xs))
+    → get_or (take (i + n - i) (drop i xs)) j 0 ≡ get_or xs (i + j) 0
+at_part xs i n j h =
+    get_or-take (i + n - i) (drop i xs) j 0 (omega (arith, length-take (i + n - i) (drop i xs))) ∙ get_or-drop i xs j 0
 
 -- halves that hold nothing yet
 pub kept_none : (sums : ℕ → ℕ) → sums 0 ≡ 0 → {h : Halves} → (value h ≡ 0) × Within 0 h → Kept sums 0 h

@@ -65,6 +65,7 @@ pub record Summed (weights words : List ℕ) (n : ℕ) (sums : List Halves) : Ty
   pub each : (k : ℕ) → k < 4 → Kept (coordinate weights words k) n (at sums k)
 
 -- no half is too great to be settled
+-- A clause: each gain raises the bound by one (`Grown`), so that a type with this one could not gain.
 abbrev pub Room : ℕ → List Halves → Type 0
 Room n sums = Each n (λ k h. Within most_gains h) sums
 

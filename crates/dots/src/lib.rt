@@ -5,7 +5,7 @@ mod halves;
 mod powers;
 mod products;
 
-ghost use Rattle.std.specs.Prelude.{◌≡◌, ◌+◌, ◌%◌, ◌^◌, ◌≤◌, ◌<◌, length, get_or, slice_index};
+ghost use Rattle.std.specs.Prelude.{◌≡◌, ◌+◌, ◌/◌, ◌%◌, ◌^◌, ◌≤◌, ◌<◌, length, get_or, slice_index};
 ghost use Rattle.algebra.specs.Ring.{Ops};
 ghost use Rattle.algebra.specs.Sum.{sum_to};
 ghost use Rattle.field.specs.Field.{p, field, base, Holds};
@@ -38,7 +38,7 @@ pub fn dot_few(weights: &[u32], words: &[u32]) -> Element
         (λ y. field.mul (element_at weights.now y) (base (get_or words.now y 0)))) }
 {
     let mut sums = [0u64; 4];
-    // By index: the words' places give those of the weights.
+    // By number: `gains` takes a place in both slices.
     for i in 0..words.len() {
         let gains = products::gains::<1>(weights, words, i);
         let more = std::array::from_fn(
@@ -59,15 +59,15 @@ pub fn dot_few(weights: &[u32], words: &[u32]) -> Element
     }
 }
 
-// The sum of weights[y] entries[y] over n entries of a table of elements, divided at the end alone.
-pub fn dot_ext(weights: &[u32], entries: &[u32], n: usize) -> Element
-    requires { Pairs n weights.now entries.now }
-    ensures { Holds result (sum_to field n
+// The sum of weights[y] entries[y] over the entries of a table of elements, divided at the end alone.
+pub fn dot_ext(weights: &[u32], entries: &[u32]) -> Element
+    requires { Pairs (length entries.now / 4) weights.now entries.now }
+    ensures { Holds result (sum_to field (length entries.now / 4)
         (λ y. field.mul (element_at weights.now y) (element_at entries.now y))) }
 {
     let mut sums = halves::none();
-    // By index: an entry is four words of each table.
-    for y in 0..n {
+    // By number: a turn reads one place of both slices.
+    for y in 0..entries.len() / 4 {
         let x = table::read(weights, y);
         let more = powers::gain(sums, x, table::read(entries, y));
         sums = more;

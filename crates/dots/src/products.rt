@@ -23,7 +23,7 @@ pub fn sums<const M: usize>(
     ensures { Summed weights.now words.now (from + M * count) result }
 {
     let mut all = before;
-    // By index: the words' places give those of the weights.
+    // By number: by `zip` of the `chunks_exact` of both, three quarters more instructions.
     for j in 0..count {
         let more = halves::gain(all, gains::<M>(weights, words, from + M * j));
         all = more;
@@ -46,16 +46,15 @@ pub fn gains<const M: usize>(weights: &[u32], words: &[u32], i: usize) -> [u64; 
 }
 
 // What coordinate k gains by words i to i + M - 1: four products fit a u64.
-#[tactic(auto, using(crate::proofs::Summing::both_below, crate::proofs::Summing::gains_none, crate::proofs::Summing::gains_more))]
+#[tactic(auto, using(crate::proofs::Summing::gains_none))]
 fn gain<const M: usize>(weights: &[u32], words: &[u32], i: usize, k: usize) -> u64
     requires part { Part weights.now words.now i M }
     requires few { (M ≤ 4) × (k < 4) }
     ensures { Gains weights.now words.now k i M result × (result ≤ M * ((p - 1) * (p - 1))) }
 {
     let mut sum = 0u64;
-    // By index: the words' places give those of the weights.
-    for j in 0..M {
-        sum += word::wide(weights[4 * (i + j) + k], words[i + j]);
+    for (j, x) in words[i..i + M].iter().enumerate() {
+        sum += word::wide(weights[4 * (i + j) + k], *x);
     }
     sum
 }

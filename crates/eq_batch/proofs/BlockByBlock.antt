@@ -40,8 +40,8 @@ module _ {n low rows end : ℕ} (cut : Cut n low rows end) where
   edge h b = omega (arith, whole, mul-le-mul_right rows b, suc-mul h rows)
 
 module _ (point : List ℕ) (n : ℕ) (scale : Element) where
-  pub start : (rows : ℕ) (ws : List ℕ) → Gained 0 (0 * rows) (scaled_at scale point 0 n) ws ws
-  start rows ws = rw zero-mul (none 0 (scaled_at scale point 0 n) ws)
+  pub start : (rows : ℕ) (ws : List ℕ) → Gained 0 (0 * rows) (scaled_at scale (elements point 0 n)) ws ws
+  start rows ws = rw zero-mul (none 0 (scaled_at scale (elements point 0 n)) ws)
 
   module _ {low rows end : ℕ} (cut : Cut n low rows end) where
     abbrev us : List Ext
@@ -58,21 +58,21 @@ module _ (point : List ℕ) (n : ℕ) (scale : Element) where
         let l : 2 ^ length vs ≡ 2 ^ low = ap (λ (k : ℕ). 2 ^ k) (elements_length point (n - low) low) in
         ap₂ (λ zs m. eq_at field zs (h * m + y)) (sym parts) (cut.rows_are ∙ sym l) ∙ eq_split field_ring us vs h y (rw l b)
 
-    module _ (h : ℕ) (ws w : List ℕ) (d : Gained 0 (h * rows) (scaled_at scale point 0 n) ws w) (b : h < end) where
+    module _ (h : ℕ) (ws w : List ℕ) (d : Gained 0 (h * rows) (scaled_at scale (elements point 0 n)) ws w) (b : h < end) where
       pub room : Elements 0 (2 ^ n) ws → Elements (h * rows) (2 ^ low) w
       room r = room_beyond (h * rows) (2 ^ low) (2 ^ n) r d (omega (arith, edge cut h b, cut.rows_are))
 
       pub turn : (a seed : Element) {w' : List ℕ} → Holds a (eq_at field us h) → Holds seed (field.mul (from_words scale) (from_words a))
-          → Gained (h * rows) (2 ^ low) (scaled_at seed point (n - low) low) w w'
-          → Gained 0 ((h + 1) * rows) (scaled_at scale point 0 n) ws w'
+          → Gained (h * rows) (2 ^ low) (scaled_at seed vs) w w'
+          → Gained 0 ((h + 1) * rows) (scaled_at scale (elements point 0 n)) ws w'
       turn a seed {w'} e₁ e₂ e₃ =
           let s : (h + 1) * rows ≡ h * rows + 2 ^ low = omega (arith, suc-mul h rows, cut.rows_are) in
           rw s
-          (blocks 0 (h * rows) (2 ^ low) (scaled_at seed point (n - low) low) (scaled_at scale point 0 n) ws w w' d (rw zero-add e₃)
+          (blocks 0 (h * rows) (2 ^ low) (scaled_at seed vs) (scaled_at scale (elements point 0 n)) ws w w' d (rw zero-add e₃)
           (λ y l.
           ap (λ x. field.mul x (eq_at field vs y)) (read_as _ e₂ ∙ ap (field.mul (from_words scale)) (read_as _ e₁))
           ∙ field_ring.mul_assoc _ _ _ ∙ ap (field.mul (from_words scale)) (sym (row h y l))))
 
-    pub finish : (h : ℕ) {ws w : List ℕ} → Gained 0 (h * rows) (scaled_at scale point 0 n) ws w → h ≡ end
-        → Gained 0 (2 ^ n) (scaled_at scale point 0 n) ws w
+    pub finish : (h : ℕ) {ws w : List ℕ} → Gained 0 (h * rows) (scaled_at scale (elements point 0 n)) ws w → h ≡ end
+        → Gained 0 (2 ^ n) (scaled_at scale (elements point 0 n)) ws w
     finish h d z = rw (z, whole cut) at d

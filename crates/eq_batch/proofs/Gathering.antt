@@ -2,7 +2,6 @@
 use mathlib.Core.Path.{◌≡◌, refl, ap, ap₂, ◌∙◌}
 use mathlib.Core.Bool.{false}
 use Prim.Native.Nat.{ℕ, zero, suc, ◌+◌, ◌*◌, ◌≤◌, ◌<◌}
-use native.Mathlib.Nat.{mul-le-mul_right, suc-mul}
 use native.Mathlib.Omega.{arith}
 use mathlib.Core.List.{List, ◌∷◌}
 use lib.ListN.{length, replicate, length-replicate}
@@ -18,10 +17,6 @@ use Rattle.eq_batch.specs.Batch.{column_from}
 use Rattle.eq_batch.specs.Inner.{Gathered}
 use Rattle.algebra.proofs.Words.{unreduced_zeros}
 use Rattle.table.proofs.Parts.{unreduced_put}
-
--- row i of column j stands in n rows of w
-pub inside : (n w i j : ℕ) → i < n → j < w → i * w + j < n * w
-inside n w i j h b = omega (arith, mul-le-mul_right w h, suc-mul i w)
 
 pub record Gathering (n w j i : ℕ) (points point : List ℕ) : Type 0 where
   pub within : i ≤ n

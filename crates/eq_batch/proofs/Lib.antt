@@ -3,3 +3,4 @@ mod Gathering
 mod Blocks
 mod BlockByBlock
 mod Summing
+mod Rows

@@ -1,14 +1,16 @@
 -- What the inner functions take and give. No operation that users call cites it. Assumes nothing.
-use Rattle.std.specs.Prelude.{◌≡◌, false, ℕ, ◌+◌, ◌*◌, ◌≤◌, ◌<◌, List, length}
+use Rattle.std.specs.Prelude.{◌≡◌, false, ℕ, ◌+◌, ◌-◌, ◌*◌, ◌≤◌, ◌<◌, List, length}
 use Rattle.algebra.specs.Words.{unreduced}
 use Rattle.multilinear.specs.Equality.{eq_at}
 use Rattle.field.specs.Field.{p, Ext, field, from_words, Reduced}
 use Rattle.field.specs.declared.Element.{Element}
 use Rattle.table.specs.Table.{get_at, entries, elements}
 use Rattle.table.specs.Refusals.{most}
+use Rattle.point.specs.declared.Point.{Point}
 use Rattle.eq_batch.specs.Batch.{most_points, column}
 
 -- n elements from place `from` on stand in out, each reduced
+-- A clause: it is of the lent out and of counts together.
 pub record Elements (from n : ℕ) (ws : List ℕ) : Type 0 where
   pub fits : 4 * (from + n) ≤ length ws
   pub reduced : (y : ℕ) → y < n → Reduced (get_at ws (from + y))
@@ -35,6 +37,10 @@ pub record Gathered (n w j : ℕ) (points r : List ℕ) : Type 0 where
   pub below : unreduced p r ≡ false
   pub point_is : elements r 0 n ≡ column points n w j
 
--- scale·eq of the m coordinates from coordinate a on, at row y
-abbrev pub scaled_at : Element → List ℕ → ℕ → ℕ → ℕ → Ext
-scaled_at scale point a m y = field.mul (from_words scale) (eq_at field (elements point a m) y)
+-- scale·eq of coordinates, at row y
+abbrev pub scaled_at : Element → List Ext → ℕ → Ext
+scaled_at scale zs y = field.mul (from_words scale) (eq_at field zs y)
+
+-- the last k coordinates of a point
+abbrev pub last : ℕ → Point → List Ext
+last k point = elements point.words.now (point.count - k) k

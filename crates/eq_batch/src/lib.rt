@@ -11,17 +11,21 @@ ghost use Rattle.field.specs.Field.{Reduced};
 ghost use Rattle.table.specs.Table.{element_at};
 ghost use Rattle.table.specs.Refusals.{answer, verdict};
 ghost use Rattle.table.specs.Gained.{Gained};
-ghost use Rattle.point.specs.Coordinates.{Coordinates};
+ghost use Rattle.point.specs.Points.{coordinates};
 ghost use Rattle.weigh.specs.Weigh.{block_variables};
 ghost use Rattle.eq_batch.specs.Batch.{batch_tests, batch_answer, batch_at, set_out, add_out};
-ghost use Rattle.eq_batch.specs.Inner.{Elements, Points, Column, Gathered, scaled_at};
+ghost use Rattle.eq_batch.specs.Inner.{Elements, Points, Column, Gathered, scaled_at, last};
 
 use field::Element;
+use point::{Point, equality};
 use table::Refusal;
 use weigh::BLOCK;
 
 // The most points of a batch.
 pub const MOST_POINTS: usize = 64;
+
+// The words of the most coordinates.
+const WORDS: usize = 4 * table::MOST;
 
 // out becomes the sum.
 #[tactic(auto, using(table::proofs::Outcomes::outcomes), unfolding(crate::specs::Batch::batch_answer, crate::specs::Batch::set_out))]
@@ -106,47 +110,50 @@ fn add_points(n: usize, points: &[u32], scalars: &[u32], out: &mut [u32])
     let w = scalars.len() / 4;
     // By number: column j of the rows is no slice.
     for j in 0..w {
-        let point = gather(points, n, w, j);
-        add_point(&point, n, table::read(scalars, j), out);
+        let column = gather(points, n, w, j);
+        let point = Point {
+            words: &column,
+            count: n,
+        };
+        add_point(point, table::read(scalars, j), out);
     }
 }
 
 // Column j of n rows, as the coordinates of a point.
-fn gather(points: &[u32], n: usize, w: usize, j: usize) -> [u32; 80]
+fn gather(points: &[u32], n: usize, w: usize, j: usize) -> [u32; WORDS]
     requires { Column n w j points.now }
     ensures { Gathered n w j points.now result }
 {
-    let mut point = [0u32; 80];
-    // By number, no plainer: a row's coordinate of column j is found by i.
-    for i in 0..n {
-        table::put(&mut point, i, table::read(points, i * w + j));
+    let mut point = [0u32; WORDS];
+    for (i, row) in points.chunks_exact(4 * w).take(n).enumerate() {
+        table::put(&mut point, i, table::read(row, j));
     }
     point
 }
 
-// out gains scale eq of the point of n coordinates, block by block: a block for each row of the first coordinates.
-fn add_point(point: &[u32], n: usize, scale: Element, out: &mut [u32])
-    requires { (Coordinates n point.now × Reduced scale) × Elements 0 (2 ^ n) out.old }
-    ensures { Gained 0 (2 ^ n) (scaled_at scale point.now 0 n) out.old out.new }
+// out gains scale eq of the point, block by block: a block for each row of the first coordinates.
+fn add_point(point: Point, scale: Element, out: &mut [u32])
+    requires { Reduced scale × Elements 0 (2 ^ point.count) out.old }
+    ensures { Gained 0 (2 ^ point.entry.count) (scaled_at scale (coordinates point.entry))
+        out.old out.new }
 {
-    let low = n.min(BLOCK);
-    let high = n - low;
+    let low = point.count.min(BLOCK);
+    let first = point.first(point.count - low);
     let rows = table::rows(low);
     // By number: h is the row of the first coordinates.
-    for h in 0..table::rows(high) {
-        let seed = scale.mul(point::equality::at_row(point, high, h));
-        add_block(point, high, low, seed, h * rows, out);
+    for h in 0..table::rows(first.count) {
+        let seed = scale.mul(equality::at_row(first, h));
+        add_block(point, low, seed, h * rows, out);
     }
 }
 
-// out gains, from place `from` on, seed eq of the low coordinates that follow the high ones.
-fn add_block(point: &[u32], high: usize, low: usize, seed: Element, from: usize, out: &mut [u32])
-    requires { (Coordinates (high + low) point.now × Reduced seed)
-        × ((low ≤ block_variables) × Elements from (2 ^ low) out.old) }
-    ensures { Gained from (2 ^ low) (scaled_at seed point.now high low) out.old out.new }
+// out gains, from place `from` on, seed eq of the last `low` coordinates.
+fn add_block(point: Point, low: usize, seed: Element, from: usize, out: &mut [u32])
+    requires { Reduced seed × (low ≤ point.count) × ((low ≤ block_variables) × Elements from (2 ^ low) out.old) }
+    ensures { Gained from (2 ^ low) (scaled_at seed (last low point.entry)) out.old out.new }
 {
     let rows = table::rows(low);
-    let block = weigh::block_of(point, high, low, seed);
+    let block = weigh::block_of(point, low, seed);
     add_table(&block, rows, from, out);
 }
 
@@ -155,7 +162,7 @@ fn add_table(summands: &[u32], n: usize, from: usize, out: &mut [u32])
     requires { Elements 0 n summands.now × Elements from n out.old }
     ensures { Gained from n (element_at summands.now) out.old out.new }
 {
-    // By number: nothing is known of a slice that `chunks_exact_mut` lent.
+    // By number: of words that `chunks_exact_mut` lent a proof knows, once they are back, the count and not the words.
     for i in 0..n {
         let sum = table::get(out, from + i).add(table::get(summands, i));
         table::put(out, from + i, sum);

@@ -72,10 +72,6 @@ pub four_words_lem : (x : Ext) {a0 a1 a2 a3 : ℕ} → a0 ≡ at (to_words x) 0 
 unfolding to_words words_of
 four_words_lem x e0 e1 e2 e3 = holds x (rw (e0, e1, e2, e3))
 
-pub four_below : (x : Ext) {a0 a1 a2 a3 : ℕ} → a0 ≡ at (to_words x) 0 → a1 ≡ at (to_words x) 1 → a2 ≡ at (to_words x) 2 → a3 ≡ at (to_words x) 3
-    → Reduced (words a0 a1 a2 a3)
-four_below x e0 e1 e2 e3 = (four_words_lem x e0 e1 e2 e3).below
-
 pub zero_law : words 0 0 0 0 ≡ to_words field.zero
 unfolding field to_words words_of reduce quartic residues
 zero_law = refl

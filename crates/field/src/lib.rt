@@ -16,7 +16,9 @@ ghost use Rattle.field.specs.Field.{p, Reduced, field, base, at, from_words, Hol
 
 use std::fmt;
 
-// Words below the modulus, the coordinate of 1 first.
+// Words below the modulus, the coordinate of 1 first. Contracts say that they are (`Reduced`), and not the type: callers hand in elements of
+// any words, to some of which 5 is the answer, and the definitions read elements of any words of a slice. A second type, of reduced elements
+// alone, is no plainer: each operation would turn one into the other, and each definition would have both.
 #[derive(Clone, Copy, Debug, PartialEq, Eq)]
 pub struct Element {
     pub c: [u32; 4],

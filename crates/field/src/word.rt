@@ -33,11 +33,11 @@ pub fn less(a: u32, b: u32) -> u32
     requires { (a < b + p) × (b ≤ a + p) }
     ensures { (result < p) × ((result + b) % p ≡ a % p) }
 {
-    let s = std::num::wrapping_sub_u32(a, b);
+    let s = a.wrapping_sub(b);
     if s < SIGN {
         s
     } else {
-        std::num::wrapping_add_u32(s, Element::MODULUS)
+        s.wrapping_add(Element::MODULUS)
     }
 }
 

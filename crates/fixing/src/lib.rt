@@ -86,7 +86,7 @@ fn fix<P: Fn(usize, usize) -> (usize, usize), F: Fn(Element, Element, Multiplier
     let made = move |a0, a1|
         requires { F.pre make a0 a1 m }
     { make(a0, a1, m) };
-    combine(entries, 0, h, pair_at, made);
+    combine(entries, h, pair_at, made);
     Ok(h)
 }
 
@@ -94,14 +94,10 @@ fn fix<P: Fn(usize, usize) -> (usize, usize), F: Fn(Element, Element, Multiplier
 fn test_fix(entries: &[u32], r: Element) -> Result<(), Refusal>
     ensures { answer result ≡ verdict (fix_tests entries.now r) }
 {
-    let n = entries.len() / 4;
-    let words = r.c;
-    table::refuse_if(table::splits(entries), Refusal::Split)?;
-    table::refuse_if(table::not_power(n), Refusal::NotPower)?;
-    table::refuse_if(table::too_many_variables(n), Refusal::TooMany)?;
+    test_sizes(entries)?;
     table::refuse_if(field::unreduced(entries), Refusal::Unreduced)?;
-    table::refuse_if(field::unreduced(&words), Refusal::Unreduced)?;
-    table::refuse_if(n == 1, Refusal::Constant)
+    table::refuse_if(field::unreduced(&r.c), Refusal::Unreduced)?;
+    table::refuse_if(entries.len() / 4 == 1, Refusal::Constant)
 }
 
 // 1, 2, 3.
@@ -176,23 +172,22 @@ fn take_back(entries: &mut [u32], h: usize, to: usize)
     requires { Pairs h 0 to entries.old }
     ensures { Made (paired (minus field) h entries.old) 0 to entries.old entries.new }
 {
-    combine(entries, 0, to, move |i| halves(h, i), |sum, a1| sum.sub(a1));
+    combine(entries, to, move |i| halves(h, i), |sum, a1| sum.sub(a1));
 }
 
-// Entries from..to become what `make` gives of the two entries that `pair` names. Those stand at or past the entry that is written, so
+// Entries 0..to become what `make` gives of the two entries that `pair` names. Those stand at or past the entry that is written, so
 // each is read before it is written.
 fn combine<P: Fn(usize) -> (usize, usize), F: Fn(Element, Element) -> Element>(
     entries: &mut [u32],
-    from: usize,
     to: usize,
     pair: P,
     make: F,
 )
-    requires { Combinable (P.pre pair) (P.post pair) (F.pre make) from to entries.old }
-    ensures { Combined (P.post pair) (F.post make) from to entries.old entries.new }
+    requires { Combinable (P.pre pair) (P.post pair) (F.pre make) 0 to entries.old }
+    ensures { Combined (P.post pair) (F.post make) 0 to entries.old entries.new }
 {
     // By number: the pair of entry i is two places of one table.
-    for i in from..to {
+    for i in 0..to {
         let (first, second) = pair(i);
         let made = make(table::get(entries, first), table::get(entries, second));
         table::put(entries, i, made);

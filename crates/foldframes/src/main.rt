@@ -39,6 +39,7 @@ fn main(rt: HostRuntime) -> ExitCode {
 fn fold(input: &mut impl Read, output: &mut impl Write) -> Result<(), Failure> {
     let mut block = [0u8; 65536];
     let mut program = Program::new();
+    // By a count that no run uses up: reads have no measure, and `forever` takes the handle Wait, which is not allowed here.
     for _ in 0..u64::MAX {
         if program.is_stopped() {
             break;
@@ -57,6 +58,7 @@ fn fold(input: &mut impl Read, output: &mut impl Write) -> Result<(), Failure> {
 // Writes all of text to standard output. A write that takes nothing is one that failed.
 fn write(output: &mut impl Write, text: &[u8]) -> Result<(), Failure> {
     let mut rest = text;
+    // By a count too: a write may be made again.
     for _ in 0..u64::MAX {
         if rest.is_empty() {
             return Ok(());

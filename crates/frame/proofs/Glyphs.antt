@@ -1,25 +1,11 @@
--- Digits: their ranges, and that the digit of a value below 16 is one and has that value. Assumes nothing.
-use mathlib.Core.Path.{◌≡◌, refl, sym, ◌∙◌}
-use mathlib.Core.Bool.{Bool, true, false, ◌&&◌}
+-- Digits: that the digit of a value below 16 is one and has that value. Assumes nothing.
+use mathlib.Core.Path.{◌≡◌, refl, ◌∙◌}
+use mathlib.Core.Bool.{Bool, true, false}
 use Prim.Native.Nat.{ℕ, ◌+◌, ◌-◌, ◌≤◌, ◌<◌}
 use native.Mathlib.Omega.{arith}
-use lib.Dec.{leb, ltb}
-use Rattle.std.proofs.Math.Bool.{or-false}
-use Rattle.std.proofs.lemmas.Bool.{and_parts}
-use borrow.Author.Tests.{leb-true, ltb-true, ltb-false, le-leb, lt-leb}
+use lib.Dec.{ltb}
+use borrow.Author.Tests.{ltb-true, ltb-false, le-leb, lt-leb}
 use Rattle.frame.specs.Hex.{is_digit, digit_of, glyph}
-
-pub number_range : (c : ℕ) → c < 97 → is_digit c ≡ true → (48 ≤ c) × (c ≤ 57)
-number_range c h d =
-    let n : leb 48 c && leb c 57 ≡ true = sym (or-false (leb 48 c && leb c 57)) ∙ (rw (lt-leb 97 c h) at d) in
-    let both = and_parts (leb 48 c) (leb c 57) n in
-    (leb-true 48 c both.0, leb-true c 57 both.1)
-
-pub letter_range : (c : ℕ) → 97 ≤ c → is_digit c ≡ true → c ≤ 102
-letter_range c h d =
-    let l : 48 ≤ c = omega arith in
-    let m : 57 < c = omega arith in
-    leb-true c 102 (rw (le-leb 48 c l, lt-leb c 57 m, le-leb 97 c h) at d)
 
 number_digit : (c : ℕ) → 48 ≤ c → c ≤ 57 → (is_digit c ≡ true) × (digit_of c ≡ c - 48)
 number_digit c l h =

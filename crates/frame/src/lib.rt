@@ -98,9 +98,8 @@ fn spell(line: &[u8], bytes: &mut [u8])
     requires { Spells line.now bytes.old }
     ensures { bytes.new ≡ spelled line.now }
 {
-    // By number, no plainer: a byte has the digits 2 i and 2 i + 1.
-    for i in 0..bytes.len() {
-        bytes[i] = 16 * digit(line[2 * i]) + digit(line[2 * i + 1]);
+    for (i, b) in bytes.iter_mut().enumerate() {
+        *b = 16 * digit(line[2 * i]) + digit(line[2 * i + 1]);
     }
 }
 
@@ -193,15 +192,13 @@ fn element(bytes: &[u8], b: usize) -> Element
 }
 
 // The `count` words of an `03`.
-#[tactic(auto, using(crate::proofs::Reading::read_in_turn))]
 fn word_list(bytes: &[u8], count: usize) -> Words
     requires { (count ≤ 16) × (2 + 4 * count ≤ length bytes.now) }
     ensures { result ≡ words_at count bytes.now 2 }
 {
     let mut words = Words::new();
-    // By number, no plainer: a word is read by where it stands, as the other fields are.
-    for i in 0..count {
-        words.push(word(bytes, 2 + 4 * i));
+    for four in bytes[2..2 + 4 * count].chunks_exact(4) {
+        words.push(word(four, 0));
     }
     words
 }
@@ -226,9 +223,8 @@ pub fn digits(ws: &[u32], text: &mut [u8])
     requires { length text.old ≡ 8 * length ws.now }
     ensures { text.new ≡ word_digits ws.now }
 {
-    // By number: nothing is known of a slice that `chunks_exact_mut` lent.
-    for i in 0..ws.len() {
-        put_word(text, 8 * i, ws[i]);
+    for (i, w) in ws.iter().enumerate() {
+        put_word(text, 8 * i, *w);
     }
 }
 
@@ -238,14 +234,14 @@ fn put_word(text: &mut [u8], at: usize, w: u32)
     ensures { text.new ≡ sets text.old at (word_digits (w ∷ [])) }
 {
     let [a, b, c, d] = w.to_be_bytes();
-    put_byte(text, at, a as u32);
-    put_byte(text, at + 2, b as u32);
-    put_byte(text, at + 4, c as u32);
-    put_byte(text, at + 6, d as u32);
+    put_byte(text, at, a);
+    put_byte(text, at + 2, b);
+    put_byte(text, at + 4, c);
+    put_byte(text, at + 6, d);
 }
 
 // The two digits of a byte, at `at`.
-pub fn put_byte(text: &mut [u8], at: usize, x: u32)
+pub fn put_byte(text: &mut [u8], at: usize, x: u8)
     requires { at + 2 ≤ length text.old }
     ensures { text.new ≡ sets text.old at (byte_digits x) }
 {
@@ -254,13 +250,9 @@ pub fn put_byte(text: &mut [u8], at: usize, x: u32)
 }
 
 // The digit of a value.
-fn glyph(d: u32) -> u8
+fn glyph(d: u8) -> u8
     requires { d < 16 }
     ensures { result ≡ glyph d }
 {
-    if d < 10 {
-        b'0' + (d as u8)
-    } else {
-        b'a' - 10 + (d as u8)
-    }
+    if d < 10 { b'0' + d } else { b'a' - 10 + d }
 }

@@ -6,7 +6,8 @@ use std::marker::Model;
 // The most words of an `03`.
 pub const MOST_WORDS: usize = 16;
 
-// Words one after another, as a list of them.
+// Words one after another, as a list of them. Beside `program`'s `Buffer`, of bytes: for one type, generic in what it holds, `hold` needs a
+// lemma on `take` that it does not need for bytes.
 #[derive(Drop)]
 pub struct Words {
     room: [u32; MOST_WORDS],

@@ -17,6 +17,7 @@ use field::Element;
 use frame::{Frame, Opening};
 use ledger::Session;
 use multilinear::{Side, Weight};
+use plan::Plan;
 use runs::{Phase, Reader};
 use table::Refusal;
 
@@ -107,7 +108,7 @@ fn test_words(reader: &Reader, words: &[u32]) -> Result<(), Refusal>
     requires { InLimits reader.now }
     ensures { answer result ≡ verdict (words_tests reader.now words.now) }
 {
-    let left = table::rows(reader.session.plan.n) - reader.session.taken;
+    let left = reader.session.plan.words() - reader.session.taken;
     table::refuse_if(lacks_coordinates(reader), Refusal::Coordinates)?;
     table::refuse_if(field::unreduced(words), Refusal::Unreduced)?;
     table::refuse_if(left < words.len(), Refusal::TooLong)
@@ -187,7 +188,7 @@ fn feed(reader: Reader, words: &[u32], out: &mut [u32]) -> Reader
 {
     let taken = reader.session.taken;
     let plan = reader.session.plan;
-    let used = 4 * table::rows(plan.n - plan.k);
+    let used = 4 * plan.places();
     piece::add(plan, taken, words, &mut out[..used]);
     mark(reader, Phase::Words, taken + words.len())
 }
@@ -207,14 +208,14 @@ fn session_of(opening: Opening) -> Session
     ensures { result ≡ session_by opening }
 {
     Session {
-        plan: plan::new(
-            opening.n,
-            opening.k,
-            opening.side,
-            opening.weight,
-            opening.scale,
-            &[],
-        ),
+        plan: Plan {
+            n: opening.n,
+            k: opening.k,
+            side: opening.side,
+            weight: opening.weight,
+            scale: opening.scale,
+            coordinates: plan::padded(&[]),
+        },
         taken: 0,
         closed: false,
     }

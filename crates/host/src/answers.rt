@@ -19,8 +19,7 @@ fn words(x: Parts) -> [u32; 12]
     let carry = x.carry.c;
     let done = x.done.c;
     let omega = x.omega.c;
-    [
-        carry[0], carry[1], carry[2], carry[3], done[0], done[1], done[2], done[3], omega[0],
-        omega[1], omega[2], omega[3],
-    ]
+    let mut words = [0u32; 12];
+    words.copy_from_slice([carry, done, omega].as_flattened());
+    words
 }

@@ -18,6 +18,7 @@ const COORDINATES: usize = plan::WORDS;
 // No answer of a session's.
 const NO_SESSION: u32 = 255;
 
+// The scale as four words, and eleven arguments one by one: the C interface needs it.
 #[unsafe(no_mangle)]
 pub extern "C" fn host_session_open(
     point: &[u32],
@@ -145,6 +146,7 @@ fn weight_of(number: u32) -> Option<Weight> {
     Weight::try_from(u8::try_from(number).ok()?).ok()
 }
 
+// By number: a truth value has no `TryFrom` of a number, and the record of C has a number for closed.
 fn truth_of(number: u32) -> Option<bool> {
     match number {
         0 => Some(false),

@@ -1,1 +1,2 @@
+mod Mapping
 mod Weighing

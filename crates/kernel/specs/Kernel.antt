@@ -7,6 +7,7 @@ use Rattle.field.specs.Field.{p, Ext, field, base, from_words, Reduced}
 use Rattle.field.specs.declared.Element.{Element}
 
 -- reduced words, k for each of n elements of out from place `from` on
+-- A clause: it is of two lent slices and of counts together.
 pub record Groups (k from n : ℕ) (out words : List ℕ) : Type 0 where
   pub room : 4 * (from + n) ≤ length out
   pub there : k * n ≤ length words
@@ -17,6 +18,7 @@ abbrev pub weight_at : List Element → ℕ → Element
 weight_at weights t = get_or weights t (record { c = [] })
 
 -- each weight is reduced, and they are four or fewer
+-- A clause: an array of elements is what the callers have, and a type of it would be made for one call.
 pub record Weights (n : ℕ) (weights : List Element) : Type 0 where
   pub few : n ≤ 4
   pub below : All Reduced weights

@@ -1,17 +1,20 @@
-// Weighted words that are added to out, or that it is set to, with one division a coordinate. There are four weights or fewer.
+// Weighted words that are added to out, or that it is set to, with one residue a coordinate. There are four weights or fewer.
 #![tactic(auto)]
 
+mod residues;
 mod steps;
 
 ghost use Rattle.std.specs.Prelude.{◌≡◌, ◌*◌, length};
 ghost use Rattle.table.specs.Gained.{Gained};
-ghost use Rattle.table.specs.Table.{table_words};
+ghost use Rattle.table.specs.Table.{entries, table_words};
 ghost use Rattle.kernel.specs.Kernel.{Groups, Weights, rows_at, words_at};
 
 use field::Element;
 use steps::Strided;
 
-// out[from + y] gains the sum of weights[t] words[t n + y] over the N rows t, for each y below n.
+// out[from + y] gains the sum of weights[t] words[t n + y] over the N rows t, for each y below n. It stays a call: copied into `scatter`,
+// which calls itself for each coordinate, its loop takes the registers of what `scatter` does each time.
+#[inline(never)]
 pub fn gain_rows<const N: usize>(
     out: &mut [u32],
     from: usize,
@@ -31,7 +34,8 @@ pub fn gain_rows<const N: usize>(
     }
 }
 
-// out[from + i] gains the sum of weights[t] words[N i + t] over t, for each i below n.
+// out[from + i] gains the sum of weights[t] words[N i + t] over t, for each i below n. `gain_rows` differs in where a place's words stand
+// alone: two loops of two lines, and one over a closure that names the words is no shorter.
 pub fn gain_groups<const N: usize>(
     out: &mut [u32],
     from: usize,
@@ -54,16 +58,16 @@ pub fn gain_groups<const N: usize>(
     }
 }
 
-// out[i] becomes the sum of weights[t] words[N i + t] over t, for each i below n. It is not read. The weights are multiplied by 2^32
+// out[i] becomes the sum of weights[t] words[N i + t] over t, for each i. It is not read. The weights are multiplied by 2^32
 // before, and each sum is divided by it.
-pub fn set_groups<const N: usize>(out: &mut [u32], words: &[u32], n: usize, weights: [Element; N])
-    requires groups { Groups N 0 n out.old words.now × (length out.old ≡ 4 * n) }
+pub fn set_groups<const N: usize>(out: &mut [u32], words: &[u32], weights: [Element; N])
+    requires groups { Groups N 0 (entries out.old) out.old words.now × (length out.old ≡ 4 * entries out.old) }
     requires reduced { Weights N weights }
-    ensures { out.new ≡ table_words n (words_at N weights.entry words.now) }
+    ensures { out.new ≡ table_words (entries out.old) (words_at N weights.entry words.now) }
 {
     let raised = steps::raised(weights);
     // By number, as `gain_groups`.
-    for i in 0..n {
+    for i in 0..out.len() / 4 {
         let group = Strided {
             first: N * i,
             apart: 1,

@@ -1,4 +1,4 @@
-// What one element gains, with one division a coordinate.
+// What one element gains, with one residue a coordinate.
 ghost use Rattle.std.specs.Prelude.{◌≡◌, ◌+◌, ◌-◌, ◌*◌, ◌%◌, ◌<◌, ◌≤◌, length};
 ghost use Rattle.algebra.specs.Ring.{Ops};
 ghost use Rattle.field.specs.Field.{p, field, base, from_words, Holds};
@@ -6,6 +6,7 @@ ghost use Rattle.lowering.specs.Lowering.{unit_inverse};
 ghost use Rattle.kernel.specs.Kernel.{Weights, weighed};
 ghost use Rattle.kernel.specs.Inner.{There, word_at, products, Raised};
 
+use crate::residues;
 use field::{Element, word};
 
 // Where the words of a sum stand: the first, and how far they are apart.
@@ -28,10 +29,10 @@ pub fn step<const N: usize>(
 {
     Element {
         c: [
-            word::residue(products(old.c[0], weights, words, at, 0)),
-            word::residue(products(old.c[1], weights, words, at, 1)),
-            word::residue(products(old.c[2], weights, words, at, 2)),
-            word::residue(products(old.c[3], weights, words, at, 3)),
+            residues::residue::<N>(products(old.c[0], weights, words, at, 0)),
+            residues::residue::<N>(products(old.c[1], weights, words, at, 1)),
+            residues::residue::<N>(products(old.c[2], weights, words, at, 2)),
+            residues::residue::<N>(products(old.c[3], weights, words, at, 3)),
         ],
     }
 }
@@ -67,7 +68,7 @@ fn products<const N: usize>(
     ensures few { result ≤ old + N * ((p - 1) * (p - 1)) }
 {
     let mut sum = old as u64;
-    // By index: the words of a column do not follow each other.
+    // By number: a place's words stand `apart` from each other. `step_by` asks that this is not 0, which `There` does not say.
     for t in 0..N {
         sum += word::wide(weights[t].c[k], words[t * at.apart + at.first]);
     }
@@ -79,10 +80,5 @@ pub fn raised<const N: usize>(weights: [Element; N]) -> [Element; N]
     requires weights { Weights N weights }
     ensures { Raised N weights.entry result }
 {
-    let mut raised = weights;
-    // By number, no plainer: each weight in its place.
-    for t in 0..N {
-        raised[t] = lowering::raise(weights[t]);
-    }
-    raised
+    weights.map(lowering::raise)
 }

@@ -4,7 +4,7 @@
 
 use plan::Plan;
 
-// A plan, and how far its table is taken.
+// A plan, how far its table is taken, and whether the session is closed: document 01's record.
 #[derive(Clone, Copy, Debug, PartialEq, Eq)]
 pub struct Session {
     pub plan: Plan,

@@ -31,7 +31,8 @@ pub fn close(s: &mut Session, out: &[u32]) -> Result<(), Refusal>
     Ok(())
 }
 
-// The lent feed, for a caller that holds the session by value.
+// The lent feed, for a caller that holds the session by value. Document 01 asks for feed and close on a lent session: this is beside `feed`,
+// and not in its place.
 pub fn feed_through(s: Session, piece: &[u32], out: &mut [u32]) -> Result<Session, Refusal>
     ensures { settled result s out.new ≡ feed_step (state s out.old) piece.now }
 {
@@ -40,7 +41,7 @@ pub fn feed_through(s: Session, piece: &[u32], out: &mut [u32]) -> Result<Sessio
     Ok(t)
 }
 
-// The lent close, for a caller that holds the session by value.
+// The lent close, for a caller that holds the session by value, beside `close` as `feed_through` beside `feed`.
 pub fn close_through(s: Session, out: &[u32]) -> Result<Session, Refusal>
     ensures { settled result s out.now ≡ close_step (state s out.now) }
 {

@@ -18,11 +18,12 @@ use Rattle.multilinear.specs.Inner.{skip_of, moved_at}
 use Rattle.multilinear.proofs.Weighed.{moved_agree}
 use Rattle.field.specs.Field.{Ext, field, base, from_words}
 use Rattle.field.proofs.Laws.{field_ring}
-use Rattle.table.specs.Table.{elements, placed}
+use Rattle.table.specs.Table.{placed}
 use Rattle.table.specs.Gained.{Gained}
 use Rattle.table.proofs.Gaining.{gained_as}
 use Rattle.table.proofs.Laws.{elements_length}
-use Rattle.moved.specs.declared.Terms.{Terms}
+use Rattle.point.specs.Points.{coordinates}
+use Rattle.moved.specs.declared.Piece.{Piece}
 use Rattle.moved.specs.Moved.{Adds, moved_by}
 
 -- at most one row
@@ -32,59 +33,48 @@ skip_small Shifted = omega arith
 skip_small Next = omega arith
 
 -- what has gained can gain again
-pub again : {terms : Terms} {point piece out w : List ℕ} {taken from n : ℕ} {g : ℕ → Ext} → Adds terms point taken piece out
-    → Gained from n g out w → Adds terms point taken piece w
-again a d =
-    record {
-      some = a.some;
-      small = a.small;
-      count = a.count;
-      point_is = a.point_is;
-      scale_is = a.scale_is;
-      within = a.within;
-      piece_below = a.piece_below;
-      room = d.len ∙ a.room;
-      out_below = d.below a.out_below;
-    }
+pub again : {piece : Piece} {out w : List ℕ} {from n : ℕ} {g : ℕ → Ext} → Adds piece out → Gained from n g out w → Adds piece w
+again a d = record { room = d.len ∙ a.room; out_below = d.below a.out_below }
 
--- where a row is one word, both sides are the same
-pub one_word : (side : Side) (terms : Terms) (point piece : List ℕ) (taken : ℕ) {out w : List ℕ} → terms.inner ≡ 1
-    → Gained 0 terms.inner (moved_by Suffix terms point taken piece) out w → Gained 0 terms.inner (moved_by side terms point taken piece) out w
-unfolding moved_by
-one_word side terms point piece taken e d =
-    gained_as _ d
-    (λ y h.
-    let q : y ≡ 0 = omega (arith, e) in
-    rw (q, e)
-    (sym
-    (moved_agree field_ring side (skip_of terms.weight) (elements point 0 terms.k) (from_words terms.scale)
-    (λ t. base (placed taken piece t)))))
+module _ (side : Side) (piece : Piece) where
+  abbrev word : ℕ → Ext
+  word t = base (placed piece.taken piece.words.now t)
 
--- so they are where there is one row
-first_word : (side : Side) (inner rows i y : ℕ) → rows ≡ 1 → y ≡ 0 → word_of side inner rows i y ≡ i
-first_word Prefix inner rows i y r e = rw e (omega arith)
-first_word Suffix inner rows i y r e = rw (r, e) (omega arith)
+  -- where a row is one word, both sides are the same
+  pub one_word : {out w : List ℕ} → piece.inner ≡ 1 → Gained 0 piece.inner (moved_by Suffix piece) out w
+      → Gained 0 piece.inner (moved_by side piece) out w
+  unfolding moved_by
+  one_word e d =
+      gained_as _ d
+      (λ y h.
+      let q : y ≡ 0 = omega (arith, e) in
+      rw (q, e)
+      (sym (moved_agree field_ring side (skip_of piece.weight) (coordinates piece.point) (from_words piece.scale) word)))
 
-pub one_row : (side : Side) (terms : Terms) (point piece : List ℕ) (taken : ℕ) {out w : List ℕ} → terms.k ≡ 0
-    → Gained 0 terms.inner (moved_by Prefix terms point taken piece) out w → Gained 0 terms.inner (moved_by side terms point taken piece) out w
-unfolding moved_by moved_at
-one_row side terms point piece taken e d =
-    gained_as _ d (λ i h. sum_ext field_ring (2 ^ length zs) _ _ (λ y b. ap (field.mul _) (go i y (dec_lt (y + skip) (2 ^ length zs)))))
-  where
-    skip : ℕ
-    skip = skip_of terms.weight
+  -- so they are where there is one row
+  pub one_row : {out w : List ℕ} → piece.point.count ≡ 0 → Gained 0 piece.inner (moved_by Prefix piece) out w
+      → Gained 0 piece.inner (moved_by side piece) out w
+  unfolding moved_by moved_at
+  one_row e d =
+      gained_as _ d (λ i h. sum_ext field_ring rows _ _ (λ y b. ap (field.mul _) (go i y (dec_lt (y + skip) rows))))
+    where
+      skip : ℕ
+      skip = skip_of piece.weight
 
-    zs : List Ext
-    zs = elements point 0 terms.k
+      rows : ℕ
+      rows = 2 ^ length (coordinates piece.point)
 
-    one : 2 ^ length zs ≡ 1
-    one = ap (λ m. 2 ^ m) (elements_length point 0 terms.k ∙ e)
+      one : rows ≡ 1
+      one = ap (λ m. 2 ^ m) (elements_length piece.point.words.now 0 piece.point.count ∙ e)
 
-    go : (i y : ℕ) → Dec (y + skip < 2 ^ length zs)
-        → cond (ltb (y + skip) (2 ^ length zs)) (base (placed taken piece (word_of Prefix terms.inner (2 ^ length zs) i (y + skip)))) field.zero
-        ≡ cond (ltb (y + skip) (2 ^ length zs)) (base (placed taken piece (word_of side terms.inner (2 ^ length zs) i (y + skip)))) field.zero
-    go i y (yes l) =
-        let q : y + skip ≡ 0 = omega (arith, one) in
-        ap (λ n. cond (ltb (y + skip) (2 ^ length zs)) (base (placed taken piece n)) field.zero)
-        (first_word Prefix terms.inner (2 ^ length zs) i (y + skip) one q ∙ sym (first_word side terms.inner (2 ^ length zs) i (y + skip) one q))
-    go i y (no l) = rw (le-ltb (y + skip) (2 ^ length zs) (omega arith))
+      first_word : (s : Side) (i y : ℕ) → y ≡ 0 → word_of s piece.inner rows i y ≡ i
+      first_word Prefix i y q = rw q (omega arith)
+      first_word Suffix i y q = rw (one, q) (omega arith)
+
+      go : (i y : ℕ) → Dec (y + skip < rows)
+          → cond (ltb (y + skip) rows) (word (word_of Prefix piece.inner rows i (y + skip))) field.zero
+          ≡ cond (ltb (y + skip) rows) (word (word_of side piece.inner rows i (y + skip))) field.zero
+      go i y (yes l) =
+          let q : y + skip ≡ 0 = omega (arith, one) in
+          ap (λ n. cond (ltb (y + skip) rows) (word n) field.zero) (first_word Prefix i (y + skip) q ∙ sym (first_word side i (y + skip) q))
+      go i y (no l) = rw (le-ltb (y + skip) rows (omega arith))

@@ -8,7 +8,8 @@ use native.Mathlib.Omega.{arith}
 use mathlib.Core.Bool.{cond}
 use mathlib.Core.List.{List}
 use lib.Dec.{ltb}
-use lib.ListN.{length, get_or, take, drop}
+use lib.ListN.{length, get_or}
+use borrow.Author.Tests.{lt-ltb, le-ltb}
 use lib.Pow.{pow_pos, pow_mono}
 use Rattle.algebra.specs.Sum.{sum_to}
 use Rattle.multilinear.specs.declared.Side.TheVariants.{Suffix}
@@ -23,19 +24,20 @@ use Rattle.table.specs.Table.{element_at, elements, put_at, placed}
 use Rattle.table.specs.Gained.{Gained}
 use Rattle.table.proofs.Laws.{elements_length}
 use Rattle.table.proofs.Gaining.{none, turn, gained_as, blocks, widened}
-use Rattle.table.proofs.Parts.{after, after_length, after_word, after_below, part_below}
+use Rattle.table.proofs.Parts.{after, after_length, after_word, after_below}
 use Rattle.table.proofs.Placed.{placed_before, placed_word, placed_after, placed_none}
+use Rattle.point.specs.Points.{coordinates}
 use Rattle.kernel.specs.Kernel.{Groups, weighed, words_at}
-use Rattle.weigh.specs.Weigh.{Block, Parts, block_sum}
-use Rattle.moved.specs.declared.Terms.{Terms}
-use Rattle.moved.specs.declared.places.Shape.{Shape}
-use Rattle.moved.specs.declared.places.Range.{Range}
-use Rattle.moved.specs.declared.places.Span.{Span}
-use Rattle.moved.specs.Moved.{Adds, moved_by}
+use Rattle.weigh.specs.Weigh.{block_sum}
+use Rattle.weigh.specs.Blocks.{Fits, part_value}
+use Rattle.weigh.specs.declared.blocks.Piece.{Piece as Words}
+use Rattle.moved.specs.declared.Piece.{Piece}
+use Rattle.moved.specs.declared.places.Blocks.{Blocks}
+use Rattle.moved.specs.Moved.{Adds, table_word, moved_by}
 use Rattle.moved.specs.Weighed.{weight_of, Weighed}
-use Rattle.moved.specs.Inner.{Blocks, Reached, Wholes, GainedIn, Cuts}
-use Rattle.moved.proofs.Moving.{skip_small, again}
-use Rattle.moved.proofs.PlaceSums.{cut_fits, cut_row, block_sum_lem, row_sum, weighed_lem}
+use Rattle.moved.specs.Inner.{Reached, Wholes, GainedIn, Cuts}
+use Rattle.moved.proofs.Moving.{skip_small}
+use Rattle.moved.proofs.PlaceSums.{block_sum_lem, row_sum, weighed_lem}
 
 -- the places from `from` to before i gained, of those to before `to`
 pub record Done (g : ℕ → Ext) (from to : ℕ) (ws w : List ℕ) (i : ℕ) : Type 0 where
@@ -73,31 +75,33 @@ adjacent g {from} {mid} {to} {ws} {w} {w'} h k a b =
     (blocks from (mid - from) (to - mid) (λ y. g (mid + y)) (λ y. g (from + y)) ws w w' a (rw q b)
     (λ y u. ap g (omega arith)))
 
-module _ {terms : Terms} {point : List ℕ} {taken : ℕ} {piece out : List ℕ} (a : Adds terms point taken piece out) where
+module _ (piece : Piece) where
   abbrev moved : ℕ → Ext
-  moved = moved_by Suffix terms point taken piece
+  moved = moved_by Suffix piece
 
   abbrev k : ℕ
-  k = terms.k
+  k = piece.point.count
 
   abbrev inner : ℕ
-  inner = terms.inner
+  inner = piece.inner
+
+  abbrev word : ℕ → ℕ
+  word = table_word piece
 
   -- a place that has no words gains nothing
-  gains_none : (i : ℕ) → ((y : ℕ) → y < 2 ^ k → placed taken piece (i * 2 ^ k + y) ≡ 0) → moved i ≡ field.zero
+  gains_none : (i : ℕ) → ((y : ℕ) → y < 2 ^ k → word (i * 2 ^ k + y) ≡ 0) → moved i ≡ field.zero
   unfolding moved_by
   gains_none i e =
       moved_none field_ring Suffix _ inner _ _ _ i
-      (λ y h. ap base (ap (λ n. placed taken piece (i * n + y)) rows_are ∙ e y (omega (arith, rows_are))) ∙ base_zero)
+      (λ y h. ap base (ap (λ n. word (i * n + y)) rows_are ∙ e y (omega (arith, rows_are))) ∙ base_zero)
     where
-      rows_are : 2 ^ length (elements point 0 k) ≡ 2 ^ k
-      rows_are = ap (λ n. 2 ^ n) (elements_length point 0 k)
+      rows_are : 2 ^ length (coordinates piece.point) ≡ 2 ^ k
+      rows_are = ap (λ n. 2 ^ n) (elements_length piece.point.words.now 0 k)
 
   -- the places of a range gained, and no other has words
-  pub finish : {from to : ℕ} {w : List ℕ} → from ≤ to → to ≤ inner → Gained from (to - from) (λ y. moved (from + y)) out w
-      → ((t : ℕ) → t < from * 2 ^ k → placed taken piece t ≡ 0) → ((t : ℕ) → to * 2 ^ k ≤ t → placed taken piece t ≡ 0)
-      → Gained 0 inner moved out w
-  finish {from} {to} h l d early late =
+  finish : {from to : ℕ} {out w : List ℕ} → Adds piece out → from ≤ to → to ≤ inner → GainedIn piece from to out w
+      → ((t : ℕ) → t < from * 2 ^ k → word t ≡ 0) → ((t : ℕ) → to * 2 ^ k ≤ t → word t ≡ 0) → Gained 0 inner moved out w
+  finish {from} {to} a h l d early late =
       widened moved d a.out_below (omega arith) (λ y u. refl)
       (λ i u. gains_none i (λ y v.
       let m : suc i * 2 ^ k ≤ from * 2 ^ k = mul-le-mul_right (2 ^ k) u in
@@ -106,75 +110,59 @@ module _ {terms : Terms} {point : List ℕ} {taken : ℕ} {piece out : List ℕ}
       let m : to * 2 ^ k ≤ i * 2 ^ k = mul-le-mul_right (2 ^ k) (omega arith) in
       late _ (omega arith)))
 
-  pub nothing : length piece ≡ 0 → Gained 0 inner moved out out
-  nothing e =
-      finish {from = 0} {to = 0} (omega arith) (omega arith) (none 0 _ out) (λ t h. placed_none taken piece e t)
-      (λ t h. placed_none taken piece e t)
+  pub nothing : {out : List ℕ} → Adds piece out → length piece.words.now ≡ 0 → Gained 0 inner moved out out
+  nothing {out} a e =
+      finish {from = 0} {to = 0} a (omega arith) (omega arith) (none 0 _ out) (λ t h. placed_none piece.taken piece.words.now e t)
+      (λ t h. placed_none piece.taken piece.words.now e t)
 
--- a block's table that has all rows
-whole_block : {k low : ℕ} {point block : List ℕ} {scale : Ext} → low ≡ k → Block (k - low) low point scale block
-    → (y : ℕ) → y < 2 ^ k → element_at block y ≡ field.mul scale (eq_at field (elements point 0 k) y)
-whole_block {k} {low} {point} {scale = scale} e b y h =
-    let q : k - low ≡ 0 = omega (arith, e) in
-    b.holds y (rw e h) ∙ ap₂ (λ a n. field.mul scale (eq_at field (elements point a n) y)) q e
-
-module _ {shape : Shape} {point block piece out : List ℕ} (b : Blocks shape point block piece out) where
-  pub blocks_again : {from n : ℕ} {g : ℕ → Ext} {w : List ℕ} → Gained from n g out w → Blocks shape point block piece w
-  blocks_again d =
-      record { adds = again b.adds d; low_fits = b.low_fits; enough = b.enough; small = b.small; block_is = b.block_is }
-
-  module _ {rows : ℕ} (r : rows ≡ 2 ^ shape.terms.k) where
-    abbrev width : ℕ
-    width = shape.terms.inner
-
+  module _ {rows : ℕ} (r : rows ≡ 2 ^ k) where
     pub some : 0 < rows
-    some = omega (arith, r, pow_pos shape.terms.k)
+    some = omega (arith, r, pow_pos k)
 
-    all_words : width * rows ≡ 2 ^ shape.terms.k * width
-    all_words = ap (λ n. width * n) r ∙ mul_comm width (2 ^ shape.terms.k)
+    all_words : inner * rows ≡ 2 ^ k * inner
+    all_words = ap (λ n. inner * n) r ∙ mul_comm inner (2 ^ k)
 
-    same : (i : ℕ) → i * rows ≡ i * 2 ^ shape.terms.k
+    same : (i : ℕ) → i * rows ≡ i * 2 ^ k
     same i = ap (λ n. i * n) r
 
-    pub few_words : (shape.taken + length piece ≤ 1048576) × (width ≤ 1048576)
+    pub few_words : (piece.taken + length piece.words.now ≤ 1048576) × (inner ≤ 1048576)
     few_words =
-        let m : width * 1 ≤ width * rows = mul-le-mul_left width some in
-        (omega (arith, b.adds.within, b.adds.small), omega (arith, m, all_words, b.adds.small))
+        let m : inner * 1 ≤ inner * rows = mul-le-mul_left inner some in
+        (omega (arith, piece.fits.within, piece.fits.small), omega (arith, m, all_words, piece.fits.small))
 
     -- the first and the last place of a piece of some words
-    module _ (more : 0 < length piece) where
+    module _ (more : 0 < length piece.words.now) where
       abbrev first : ℕ
-      first = shape.taken / rows
+      first = piece.taken / rows
 
       abbrev last : ℕ
-      last = (shape.taken + length piece - 1) / rows
+      last = (piece.taken + length piece.words.now - 1) / rows
 
-      first_at : (first * rows ≤ shape.taken) × (shape.taken < first * rows + rows)
-      first_at = (div-mul-le_self shape.taken rows, lt-div-mul-add some)
+      first_at : (first * rows ≤ piece.taken) × (piece.taken < first * rows + rows)
+      first_at = (div-mul-le_self piece.taken rows, lt-div-mul-add some)
 
-      last_at : (last * rows < shape.taken + length piece) × (shape.taken + length piece ≤ last * rows + rows)
+      last_at : (last * rows < piece.taken + length piece.words.now) × (piece.taken + length piece.words.now ≤ last * rows + rows)
       last_at =
-          let l = div-mul-le_self (shape.taken + length piece - 1) rows in
-          let m : shape.taken + length piece - 1 < last * rows + rows = lt-div-mul-add some in
+          let l = div-mul-le_self (piece.taken + length piece.words.now - 1) rows in
+          let m : piece.taken + length piece.words.now - 1 < last * rows + rows = lt-div-mul-add some in
           (omega (arith, l, more), omega (arith, m, more))
 
-      pub in_order : (first ≤ last) × (last < width)
+      pub in_order : (first ≤ last) × (last < inner)
       in_order =
           let h : first * rows < suc last * rows = omega (arith, first_at.0, last_at.1, more) in
-          let l : last * rows < width * rows = omega (arith, last_at.0, all_words, b.adds.within) in
+          let l : last * rows < inner * rows = omega (arith, last_at.0, all_words, piece.fits.within) in
           let o : first < suc last = lt_of_mul-lt-mul_right rows h in
           (omega (arith, o), lt_of_mul-lt-mul_right rows l)
 
-      pub head : Reached shape (record { from = first; to = first + 1 })
-      head =
-          record { order = omega arith; begun = omega (arith, first_at.1, same first, r); there = omega (arith, in_order) }
+      pub head : Reached piece first (first + 1)
+      head = record { order = omega arith; begun = omega (arith, first_at.1, same first, r); there = omega (arith, in_order) }
 
-      pub tail : Reached shape (record { from = last; to = last + 1 })
+      pub tail : Reached piece last (last + 1)
       tail =
           let m : first * rows ≤ last * rows = mul-le-mul_right rows in_order.0 in
           record { order = omega arith; begun = omega (arith, m, first_at.1, same last, r); there = omega (arith, in_order) }
 
-      pub middle : first < last → Wholes shape (record { from = first + 1; to = last }) piece
+      pub middle : first < last → Wholes piece (first + 1) last
       middle h =
           let m : (first + 1) * rows ≡ first * rows + 1 * rows = add-mul first 1 rows in
           record {
@@ -184,140 +172,148 @@ module _ {shape : Shape} {point block piece out : List ℕ} (b : Blocks shape po
           }
 
       -- no other place has words
-      early : (t : ℕ) → t < first * 2 ^ shape.terms.k → placed shape.taken piece t ≡ 0
-      early t h = placed_before shape.taken piece t (omega (arith, first_at.0, same first))
+      early : (t : ℕ) → t < first * 2 ^ k → word t ≡ 0
+      early t h = placed_before piece.taken piece.words.now t (omega (arith, first_at.0, same first))
 
-      late : (t : ℕ) → (last + 1) * 2 ^ shape.terms.k ≤ t → placed shape.taken piece t ≡ 0
+      late : (t : ℕ) → (last + 1) * 2 ^ k ≤ t → word t ≡ 0
       late t h =
           let m : (last + 1) * rows ≡ last * rows + 1 * rows = add-mul last 1 rows in
-          placed_after shape.taken piece t (omega (arith, m, last_at.1, same (last + 1)))
+          placed_after piece.taken piece.words.now t (omega (arith, m, last_at.1, same (last + 1)))
 
-      pub one_place : {w : List ℕ} → last ≤ first → GainedIn shape (record { from = first; to = first + 1 }) point piece out w
-          → Gained 0 width (moved_by Suffix shape.terms point shape.taken piece) out w
-      one_place h d =
+      pub one_place : {out w : List ℕ} → Adds piece out → last ≤ first → GainedIn piece first (first + 1) out w → Gained 0 inner moved out w
+      one_place a h d =
           let q : first ≡ last = le_antisymm in_order.0 h in
-          finish b.adds (omega arith) (omega (arith, in_order)) d early (rw (sym q) at late)
+          finish a (omega arith) (omega (arith, in_order)) d early (rw (sym q) at late)
 
-      pub all_places : {w₁ w₂ w₃ : List ℕ} → first < last → GainedIn shape (record { from = first; to = first + 1 }) point piece out w₁
-          → GainedIn shape (record { from = first + 1; to = last }) point piece w₁ w₂
-          → GainedIn shape (record { from = last; to = last + 1 }) point piece w₂ w₃
-          → Gained 0 width (moved_by Suffix shape.terms point shape.taken piece) out w₃
-      all_places h d₁ d₂ d₃ =
-          let g = moved_by Suffix shape.terms point shape.taken piece in
-          finish b.adds (omega arith) (omega (arith, in_order))
-          (adjacent g (omega arith) (omega arith) (adjacent g (omega arith) (omega arith) d₁ d₂) d₃) early late
+      pub all_places : {out w₁ w₂ w₃ : List ℕ} → Adds piece out → first < last → GainedIn piece first (first + 1) out w₁
+          → GainedIn piece (first + 1) last w₁ w₂ → GainedIn piece last (last + 1) w₂ w₃ → Gained 0 inner moved out w₃
+      all_places a h d₁ d₂ d₃ =
+          finish a (omega arith) (omega (arith, in_order))
+          (adjacent moved (omega arith) (omega arith) (adjacent moved (omega arith) (omega arith) d₁ d₂) d₃) early late
 
-    module _ {range : Range} (w : Wholes shape range piece) where
+    module _ {from to : ℕ} (w : Wholes piece from to) where
       -- the words of whole places: from the first place's to the end of the last place's
-      pub spans : (shape.taken ≤ range.from * rows) × (range.from * rows ≤ range.to * rows)
-          × (range.to * rows ≤ shape.taken + length piece)
-      spans =
-          (omega (arith, w.begun, same range.from), mul-le-mul_right rows w.order, omega (arith, w.ended, same range.to))
+      pub spans : (piece.taken ≤ from * rows) × (from * rows ≤ to * rows) × (to * rows ≤ piece.taken + length piece.words.now)
+      spans = (omega (arith, w.begun, same from), mul-le-mul_right rows w.order, omega (arith, w.ended, same to))
 
-      pub reach : Reached shape range
+      pub reach : Reached piece from to
       reach =
-          let n : range.to * rows ≤ width * rows = omega (arith, spans, all_words, b.adds.within) in
+          let n : to * rows ≤ inner * rows = omega (arith, spans, all_words, piece.fits.within) in
           record { order = w.order; begun = omega (arith, w.begun); there = le_of_mul-le-mul_right n some }
 
       -- the words from the first place's on
-      module _ {x : ℕ} (ex : x ≡ range.from * rows - shape.taken) where
-        pub groups : {n : ℕ} → rows ≡ n → Groups n range.from (range.to - range.from) out (after x piece)
-        groups {n} e =
-            let q : range.from + (range.to - range.from) ≡ range.to = omega (arith, w.order) in
-            let m : range.from * rows + (range.to - range.from) * rows ≡ range.to * rows =
-            sym (add-mul range.from (range.to - range.from) rows) ∙ ap (λ j. j * rows) q in
-            let t : n * (range.to - range.from) ≡ (range.to - range.from) * rows =
-            mul_comm n (range.to - range.from) ∙ ap (λ j. (range.to - range.from) * j) (sym e) in
+      module _ {x : ℕ} (ex : x ≡ from * rows - piece.taken) where
+        pub groups : {n : ℕ} {out : List ℕ} → Adds piece out → rows ≡ n → Groups n from (to - from) out (after x piece.words.now)
+        groups {n} a e =
+            let q : from + (to - from) ≡ to = omega (arith, w.order) in
+            let m : from * rows + (to - from) * rows ≡ to * rows = sym (add-mul from (to - from) rows) ∙ ap (λ j. j * rows) q in
+            let t : n * (to - from) ≡ (to - from) * rows = mul_comm n (to - from) ∙ ap (λ j. (to - from) * j) (sym e) in
             record {
-              room = omega (arith, reach.there, q, b.adds.room);
-              there = rw (t, after_length x piece) (omega (arith, ex, spans, m));
-              words_below = after_below x piece b.adds.piece_below;
+              room = omega (arith, reach.there, q, a.room);
+              there = rw (t, after_length x piece.words.now) (omega (arith, ex, spans, m));
+              words_below = after_below x piece.words.now piece.below;
             }
 
         -- word z of place j
-        word_is : (n j z : ℕ) → n ≡ j * rows + z → get_or (after x piece) n 0 ≡ placed shape.taken piece ((range.from + j) * rows + z)
+        word_is : (n j z : ℕ) → n ≡ j * rows + z → get_or (after x piece.words.now) n 0 ≡ word ((from + j) * rows + z)
         word_is n j z e =
-            let a : (range.from + j) * rows ≡ range.from * rows + j * rows = add-mul range.from j rows in
-            let q : shape.taken + (x + n) ≡ (range.from + j) * rows + z = omega (arith, ex, e, spans.0, a) in
-            after_word x piece n ∙ sym (placed_word shape.taken piece (x + n)) ∙ ap (placed shape.taken piece) q
+            let a : (from + j) * rows ≡ from * rows + j * rows = add-mul from j rows in
+            let q : piece.taken + (x + n) ≡ (from + j) * rows + z = omega (arith, ex, e, spans.0, a) in
+            after_word x piece.words.now n ∙ sym (placed_word piece.taken piece.words.now (x + n)) ∙ ap word q
 
-    -- few rows are all in the block
-    module _ (few : rows ≤ 4) where
-      low_is : shape.low ≡ shape.terms.k
-      low_is = go (dec_lt 2 shape.terms.k)
-        where
-          go : Dec (2 < shape.terms.k) → shape.low ≡ shape.terms.k
-          go (yes h) = let m : 2 ^ 3 ≤ 2 ^ shape.terms.k = pow_mono h in absurd (omega (arith, r, few))
-          go (no h) = omega (arith, b.low_fits, b.enough)
-
-      pub block_room : 4 * rows ≤ length block
-      block_room =
-          let e : 2 ^ shape.low ≡ 2 ^ shape.terms.k = ap (λ n. 2 ^ n) low_is in
-          omega (arith, e, r, b.block_is.room)
-
-    module _ {skip : ℕ} (s : skip ≡ skip_of shape.terms.weight) where
+    module _ {skip : ℕ} (s : skip ≡ skip_of piece.weight) where
       skip_fits : skip ≤ 1
-      skip_fits = rw s (skip_small shape.terms.weight)
+      skip_fits = rw s (skip_small piece.weight)
 
-      pub place_fits : {i : ℕ} → i < width → (i * rows + rows ≤ 1048576) × (i * rows + skip ≤ 1048576) × (i < 1048576)
+      pub place_fits : {i : ℕ} → i < inner → (i * rows + rows ≤ 1048576) × (i * rows + skip ≤ 1048576) × (i < 1048576)
       place_fits {i} h =
-          let m : suc i * rows ≤ width * rows = mul-le-mul_right rows h in
+          let m : suc i * rows ≤ inner * rows = mul-le-mul_right rows h in
           let n : suc i * 1 ≤ suc i * rows = mul-le-mul_left (suc i) some in
-          let e : suc i * rows ≤ 1048576 = omega (arith, m, all_words, b.adds.small) in
+          let e : suc i * rows ≤ 1048576 = omega (arith, m, all_words, piece.fits.small) in
           (omega (arith, e), omega (arith, e, some, skip_fits), omega (arith, e, n))
 
-      pub cut_needs : {range : Range} {i : ℕ} → Reached shape range → range.from ≤ i
-          → (shape.taken + length piece ≤ 1048576) × (i * rows + skip ≤ i * rows + rows) × (shape.taken ≤ i * rows + rows)
-      cut_needs {range} {i} t h =
-          let m : range.from * rows ≤ i * rows = mul-le-mul_right rows h in
-          (few_words.0, omega (arith, some, skip_fits), omega (arith, t.begun, r, same range.from, m))
+      pub cut_needs : {from to i : ℕ} → Reached piece from to → from ≤ i
+          → (i * rows + skip ≤ i * rows + rows) × (piece.taken ≤ i * rows + rows)
+      cut_needs {from} {to} {i} t h =
+          let m : from * rows ≤ i * rows = mul-le-mul_right rows h in
+          (omega (arith, some, skip_fits), omega (arith, t.begun, r, same from, m))
 
+      -- a place's words
+      cut_row : (i : ℕ) (cut : Words) → Cuts piece (i * rows + skip) (i * rows + rows) cut → (y : ℕ)
+          → placed cut.from cut.words.now y ≡ cond (ltb (y + skip) (2 ^ k)) (word (i * 2 ^ k + (y + skip))) 0
+      cut_row i cut c y = go (dec_lt (y + skip) (2 ^ k))
+        where
+          go : Dec (y + skip < 2 ^ k)
+              → placed cut.from cut.words.now y ≡ cond (ltb (y + skip) (2 ^ k)) (word (i * 2 ^ k + (y + skip))) 0
+          go (yes h) = rw (lt-ltb (y + skip) (2 ^ k) h) (c.each y (omega (arith, r)) ∙ ap word (omega (arith, same i)))
+          go (no h) = rw (le-ltb (y + skip) (2 ^ k) (omega arith)) (placed_after cut.from cut.words.now y (omega (arith, c.fits, r)))
+
+module _ (s : Blocks) where
+  abbrev piece : Piece
+  piece = s.piece
+
+  high_low : s.split.high.count + s.split.low ≡ piece.point.count
+  high_low = omega (arith, s.blocked.count, s.blocked.low_fits)
+
+  -- a block's table that has all rows
+  whole_block : s.split.low ≡ piece.point.count → (y : ℕ) → y < 2 ^ piece.point.count
+      → element_at s.split.block.now y ≡ field.mul (from_words piece.scale) (eq_at field (coordinates piece.point) y)
+  whole_block e y h =
+      let q : piece.point.count - s.split.low ≡ 0 = omega (arith, e) in
+      s.blocked.block_is.holds y (rw e h)
+      ∙ ap₂ (λ a n. field.mul (from_words piece.scale) (eq_at field (elements piece.point.words.now a n) y)) q e
+
+  module _ {rows : ℕ} (r : rows ≡ 2 ^ piece.point.count) where
+    -- few rows are all in the block
+    low_is : rows ≤ 4 → s.split.low ≡ piece.point.count
+    low_is few = go (dec_lt 2 piece.point.count)
+      where
+        go : Dec (2 < piece.point.count) → s.split.low ≡ piece.point.count
+        go (yes h) = let m : 2 ^ 3 ≤ 2 ^ piece.point.count = pow_mono h in absurd (omega (arith, r, few))
+        go (no h) = omega (arith, s.blocked.low_fits, s.blocked.enough)
+
+    pub block_room : rows ≤ 4 → 4 * rows ≤ length s.split.block.now
+    block_room few =
+        let e : 2 ^ s.split.low ≡ 2 ^ piece.point.count = ap (λ n. 2 ^ n) (low_is few) in
+        omega (arith, e, r, s.split.summed.room.enough)
+
+    module _ {skip : ℕ} (q : skip ≡ skip_of piece.weight) where
       -- a place's words against the block's table
-      module _ (i : ℕ) {t : Span} (c : Cuts shape.taken (length piece) (i * rows + skip) (i * rows + rows) t) where
-        pub part_fits : Parts 0 (shape.terms.k - shape.low) shape.low t.from point (take (t.b - t.a) (drop t.a piece)) block
-        part_fits =
-            let e : 0 + (shape.terms.k - shape.low) + shape.low ≡ shape.terms.k = omega (arith, b.low_fits) in
-            let f : shape.terms.k - shape.low + shape.low ≡ shape.terms.k = omega (arith, b.low_fits) in
-            record {
-              point_is = rw e b.adds.point_is;
-              fits = rw (f, sym r) (cut_fits i rows skip shape.taken piece c);
-              words_below = part_below t.a (t.b - t.a) piece b.adds.piece_below;
-              small = b.small;
-              room = b.block_is.room;
-              below = b.block_is.below;
-            }
+      module _ (i : ℕ) (cut : Words) (c : Cuts piece (i * rows + skip) (i * rows + rows) cut) where
+        pub part_fits : Fits s.split cut
+        part_fits = rw high_low (omega (arith, c.fits, r))
 
-        pub place_is : value_at field (elements point 0 (shape.terms.k - shape.low))
-            (block_sum shape.low block (placed t.from (take (t.b - t.a) (drop t.a piece))))
-            ≡ moved_by Suffix shape.terms point shape.taken piece i
+        pub place_is : part_value s.split cut ≡ moved_by Suffix piece i
         unfolding moved_by
         place_is =
-            block_sum_lem shape.terms.k point _ width skip (placed shape.taken piece) i b.low_fits b.block_is _
-            (λ z. cut_row i rows skip shape.taken piece c z
-            ∙ ap (λ n. cond (ltb (z + skip) n) (placed shape.taken piece (i * n + (z + skip))) 0) r)
-            ∙ ap (λ n. moved_at field Suffix n width (elements point 0 shape.terms.k) (from_words shape.terms.scale)
-            (λ t. base (placed shape.taken piece t)) i) s
+            ap₂ (λ ws n.
+            value_at field (elements ws 0 n)
+            (block_sum s.split.low s.split.block.now (λ y. base (placed cut.from cut.words.now y))))
+            s.blocked.words s.blocked.count
+            ∙ block_sum_lem piece.point.count piece.point.words.now _ piece.inner skip (table_word piece) i s.blocked.low_fits
+            s.blocked.block_is _ (cut_row piece r q i cut c)
+            ∙ ap (λ n.
+            moved_at field Suffix n piece.inner (coordinates piece.point) (from_words piece.scale) (λ t. base (table_word piece t)) i) q
 
       -- a place's words against the weights of its rows
       few_is : {n : ℕ} → rows ≡ n → n ≤ 4 → (i : ℕ)
-          → sum_to field n (λ z. field.mul (weight_of block skip z) (base (placed shape.taken piece (i * rows + z))))
-          ≡ moved_by Suffix shape.terms point shape.taken piece i
+          → sum_to field n (λ z. field.mul (weight_of s.split.block.now skip z) (base (table_word piece (i * rows + z))))
+          ≡ moved_by Suffix piece i
       unfolding moved_by
       few_is e h i =
-          let q = sym e ∙ r in
-          ap₂ (λ m l. sum_to field m (λ z. field.mul (weight_of block skip z) (base (placed shape.taken piece (i * l + z))))) q r
-          ∙ row_sum shape.terms.k point _ width skip (placed shape.taken piece) i block skip_fits
-          (whole_block (low_is (omega (arith, e))) b.block_is)
-          ∙ ap (λ n. moved_at field Suffix n width (elements point 0 shape.terms.k) (from_words shape.terms.scale)
-          (λ t. base (placed shape.taken piece t)) i) s
+          let m = sym e ∙ r in
+          ap₂ (λ m l. sum_to field m (λ z. field.mul (weight_of s.split.block.now skip z) (base (table_word piece (i * l + z))))) m r
+          ∙ row_sum piece.point.count piece.point.words.now _ piece.inner skip (table_word piece) i s.split.block.now
+          (skip_fits piece r q) (whole_block (low_is (omega (arith, e))))
+          ∙ ap (λ n.
+          moved_at field Suffix n piece.inner (coordinates piece.point) (from_words piece.scale) (λ t. base (table_word piece t)) i) q
 
-      module _ {range : Range} (w : Wholes shape range piece) {x : ℕ} (ex : x ≡ range.from * rows - shape.taken) {out' : List ℕ} where
-        pub places_gained : {n : ℕ} {weights : List Element} → rows ≡ n → n ≤ 4 → Weighed n block skip weights
-            → Gained range.from (range.to - range.from) (words_at n weights (after x piece)) out out'
-            → GainedIn shape range point piece out out'
+      module _ {from to : ℕ} (w : Wholes piece from to) {x : ℕ} (ex : x ≡ from * rows - piece.taken) {out out' : List ℕ} where
+        pub places_gained : {n : ℕ} {weights : List Element} → rows ≡ n → n ≤ 4 → Weighed n s.split.block.now skip weights
+            → Gained from (to - from) (words_at n weights (after x piece.words.now)) out out' → GainedIn piece from to out out'
         places_gained {n} {weights} e few h d =
             gained_as _ d λ j l.
-            let q : n * j ≡ j * rows = mul_comm n j ∙ ap (λ m. j * m) (sym e) in
-            ap (weighed n weights) (λ i z. word_is w ex (n * j + z) j z (ap (λ m. m + z) q) i)
-            ∙ weighed_lem h (λ z. placed shape.taken piece ((range.from + j) * rows + z))
-            ∙ few_is e few (range.from + j)
+            let t : n * j ≡ j * rows = mul_comm n j ∙ ap (λ m. j * m) (sym e) in
+            ap (weighed n weights) (λ i z. word_is piece r w ex (n * j + z) j z (ap (λ m. m + z) t) i)
+            ∙ weighed_lem h (λ z. table_word piece ((from + j) * rows + z))
+            ∙ few_is e few (from + j)

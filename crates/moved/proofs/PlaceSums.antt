@@ -1,13 +1,13 @@
 -- What one place gains: its words of the piece against a block's table, or against the weights of its rows. Assumes nothing.
 use mathlib.Core.Path.{◌≡◌, refl, sym, ap, ◌∙◌}
 use mathlib.Core.Bool.{Bool, true, false, cond}
-use Prim.Native.Nat.{ℕ, zero, suc, ◌+◌, ◌-◌, ◌*◌, ◌^◌, ◌≤◌, ◌<◌}
+use Prim.Native.Nat.{ℕ, zero, suc, min, ◌+◌, ◌-◌, ◌*◌, ◌^◌, ◌≤◌, ◌<◌}
 use native.Mathlib.Decide.{dec_lt}
 use native.Mathlib.Omega.{arith}
 use mathlib.Core.List.{List}
 use lib.Dec.{ltb}
 use lib.ListN.{length, take, drop}
-use borrow.Author.Tests.{lt-ltb, le-ltb}
+use borrow.Author.Tests.{le-ltb}
 use Rattle.algebra.specs.Sum.{sum_to}
 use Rattle.algebra.proofs.Ring.{mul_zero}
 use Rattle.algebra.proofs.Sums.{sum_ext}
@@ -29,31 +29,14 @@ use Rattle.table.proofs.Placed.{placed_after, placed_take, placed_further}
 use Rattle.std.proofs.lemmas.List.Elements.{All-from_get_or}
 use Rattle.kernel.specs.Kernel.{Weights, weighed}
 use Rattle.weigh.specs.Weigh.{Block, block_sum}
-use Rattle.weigh.proofs.Weighing.{weighed_words}
-use Rattle.moved.specs.declared.places.Span.{Span}
-use Rattle.moved.specs.Inner.{Cuts}
+use Rattle.weigh.proofs.Weighing.{weighed as weighed_blocks}
+use Rattle.moved.specs.declared.Piece.{Piece}
+use Rattle.moved.specs.Moved.{table_word}
 use Rattle.moved.specs.Weighed.{weight_of, Weighed}
 
 base_cond : (b : Bool) (x : ℕ) → base (cond b x 0) ≡ cond b (base x) field.zero
 base_cond true x = refl
 base_cond false x = base_zero
-
-module _ {taken l start stop : ℕ} {t : Span} (c : Cuts taken l start stop t) where
-  pub cut_order : (t.a ≤ t.b) × (t.b ≤ l)
-  cut_order = (omega (arith, c.order, c.a_is, c.b_is), omega (arith, c.b_is))
-
-  ends : t.from + t.b + start ≤ stop + t.a
-  ends = omega (arith, c.order, c.begun, c.a_is, c.b_is, c.from_is)
-
-  -- a word that is not there
-  past : (y : ℕ) → start + y < stop → t.from + t.b ≤ y + t.a → taken + l ≤ start + y
-  past y h k = omega (arith, c.a_is, c.b_is, c.from_is)
-
-  as_least : t.a ≡ l - (l - (start - taken))
-  as_least = omega (arith, c.a_is)
-
-  as_place : t.from ≡ taken + t.a - start
-  as_place = omega (arith, c.a_is, c.from_is)
 
 not_lt : {m n : ℕ} → (m < n → ⊥) → n ≤ m
 not_lt h = omega arith
@@ -68,42 +51,47 @@ module _ {a b : ℕ} (h : a ≤ b) where
   more : (from n : ℕ) → from + (b - a) ≤ n → from + b ≤ n + a
   more from n k = omega arith
 
-module _ (i rows skip taken : ℕ) (piece : List ℕ) {t : Span} (c : Cuts taken (length piece) (i * rows + skip) (i * rows + rows) t) where
-  abbrev words : List ℕ
-  words = take (t.b - t.a) (drop t.a piece)
+-- the words of a piece from a to before b, those from word `start` to before word `stop` of the table, at the rows from `from` on
+module _ (piece : Piece) {start stop a b from : ℕ} (order : start ≤ stop) (begun : piece.taken ≤ stop)
+    (a_is : a ≡ min (length piece.words.now) (start - piece.taken)) (b_is : b ≡ min (length piece.words.now) (stop - piece.taken))
+    (from_is : from ≡ piece.taken - start) where
+  abbrev part : List ℕ
+  part = take (b - a) (drop a piece.words.now)
 
-  count : length words ≡ t.b - t.a
-  count = part_length t.a (t.b - t.a) piece (lent (cut_order c).0 (cut_order c).1)
+  in_order : (a ≤ b) × (b ≤ length piece.words.now)
+  in_order = (omega (arith, order, a_is, b_is), omega (arith, b_is))
 
-  -- a row that is not there
-  none_from : (y : ℕ) → t.from + t.b ≤ y + t.a → placed t.from words y ≡ 0
-  none_from y h = placed_after t.from words y (rw count (less (cut_order c).0 t.from y h))
+  ends : from + b + start ≤ stop + a
+  ends = omega (arith, order, begun, a_is, b_is, from_is)
 
-  pub cut_fits : t.from + length words ≤ rows
-  cut_fits = let e = ends c in rw count (less (cut_order c).0 t.from rows (omega (arith, e)))
+  -- a word that is not there
+  past : (y : ℕ) → start + y < stop → from + b ≤ y + a → piece.taken + length piece.words.now ≤ start + y
+  past y h k = omega (arith, a_is, b_is, from_is)
 
-  -- row y of place i, whose rows from `skip` on they are
-  pub cut_row : (y : ℕ) → placed t.from words y ≡ cond (ltb (y + skip) rows) (placed taken piece (i * rows + (y + skip))) 0
-  cut_row y = go (dec_lt (y + skip) rows) (dec_lt y (t.from + (t.b - t.a)))
+  as_least : a ≡ length piece.words.now - (length piece.words.now - (start - piece.taken))
+  as_least = omega (arith, a_is)
+
+  as_place : from ≡ piece.taken + a - start
+  as_place = omega (arith, a_is, from_is)
+
+  count : length part ≡ b - a
+  count = part_length a (b - a) piece.words.now (lent in_order.0 in_order.1)
+
+  pub cut_fits : from + length part ≤ stop - start
+  cut_fits = let e = ends in rw count (less in_order.0 from (stop - start) (omega (arith, e, order)))
+
+  pub cut_each : (y : ℕ) → start + y < stop → placed from part y ≡ table_word piece (start + y)
+  cut_each y h = go (dec_lt y (from + (b - a)))
     where
-      same : placed taken piece (i * rows + skip + y) ≡ placed taken piece (i * rows + (y + skip))
-      same = ap (placed taken piece) (omega arith)
-
-      go : Dec (y + skip < rows) → Dec (y < t.from + (t.b - t.a))
-          → placed t.from words y ≡ cond (ltb (y + skip) rows) (placed taken piece (i * rows + (y + skip))) 0
-      go (yes h) (yes k) =
-          rw (lt-ltb (y + skip) rows h)
-          (placed_take t.from (t.b - t.a) (drop t.a piece) y k
-          ∙ ap (λ ws. placed t.from ws y) (sym (after_is t.a piece))
-          ∙ placed_further (i * rows + skip) taken piece t.a t.from (as_least c) (as_place c) y ∙ same)
-      go (yes h) (no k) =
-          let far = more (cut_order c).0 t.from y (not_lt k) in
-          let l : i * rows + skip + y < i * rows + rows = omega (arith, h) in
-          rw (lt-ltb (y + skip) rows h)
-          (none_from y far ∙ sym (placed_after taken piece (i * rows + skip + y) (past c y l far)) ∙ same)
-      go (no h) _ =
-          let e = ends c in
-          rw (le-ltb (y + skip) rows (not_lt h)) (none_from y (omega (arith, e, not_lt h)))
+      go : Dec (y < from + (b - a)) → placed from part y ≡ table_word piece (start + y)
+      go (yes k) =
+          placed_take from (b - a) (drop a piece.words.now) y k
+          ∙ ap (λ ws. placed from ws y) (sym (after_is a piece.words.now))
+          ∙ placed_further start piece.taken piece.words.now a from as_least as_place y
+      go (no k) =
+          let far = more in_order.0 from y (not_lt k) in
+          placed_after from part y (rw count (less in_order.0 from y far))
+          ∙ sym (placed_after piece.taken piece.words.now (start + y) (past y h far))
 
 module _ (k : ℕ) (point : List ℕ) (scale : Ext) (inner skip : ℕ) (word : ℕ → ℕ) (i : ℕ) where
   abbrev zs : List Ext
@@ -118,9 +106,9 @@ module _ (k : ℕ) (point : List ℕ) (scale : Ext) (inner skip : ℕ) (word : �
   -- the place's words against a block's table
   pub block_sum_lem : {low : ℕ} {block : List ℕ} → low ≤ k → Block (k - low) low point scale block → (row : ℕ → ℕ)
       → ((y : ℕ) → row y ≡ cond (ltb (y + skip) (2 ^ k)) (word (i * 2 ^ k + (y + skip))) 0)
-      → value_at field (elements point 0 (k - low)) (block_sum low block row) ≡ moved
+      → value_at field (elements point 0 (k - low)) (block_sum low block (λ y. base (row y))) ≡ moved
   block_sum_lem {low} {block} h b row e =
-      weighed_words h b row
+      weighed_blocks h b (λ y. base (row y))
       ∙ moved_value field_ring Suffix skip inner zs scale (λ t. base (word t)) i (λ y. base (row y))
       (λ y c. ap base (e y) ∙ base_cond (ltb (y + skip) (2 ^ k)) (word (i * 2 ^ k + (y + skip)))
       ∙ ap (λ n. cond (ltb (y + skip) n) (base (word (i * n + (y + skip)))) field.zero) (sym rows_are))

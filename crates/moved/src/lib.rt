@@ -12,42 +12,50 @@ mod rows;
 ghost use Rattle.std.specs.Prelude.{◌≡◌, false, ◌+◌, ◌-◌, ◌*◌, ◌≤◌, ◌<◌, min, length};
 ghost use Rattle.algebra.specs.Words.{unreduced};
 ghost use Rattle.multilinear.specs.Inner.{skip_of};
-ghost use Rattle.field.specs.Field.{p, Holds};
-ghost use Rattle.table.specs.Gained.{Gained};
-ghost use Rattle.moved.specs.Moved.{Adds, moved_by};
+ghost use Rattle.field.specs.Field.{p, Reduced, Holds};
+ghost use Rattle.moved.specs.Fits.{Fits};
 ghost use Rattle.moved.specs.Weighed.{weight_of, Weighed};
 
 use field::Element;
 use multilinear::{Side, Weight};
+use point::Point;
 
-// What the terms of a place's sum are made of: 2^k rows of `inner` words, and the rows' weights.
+// A piece of a table of 2^k rows of `inner` words, where the point has k coordinates, and what the rows' weights are made of. The words are
+// the table's from word `taken` on.
 #[derive(Clone, Copy)]
-pub struct Terms {
-    pub k: usize,
-    pub inner: usize,
+pub struct Piece<'a> {
+    pub point: Point<'a>,
     pub weight: Weight,
     pub scale: Element,
+    pub inner: usize,
+    pub taken: usize,
+    pub words: &'a [u32],
+    pub ghost fits: { Fits point.count inner taken words.now },
+    pub ghost scale_is: { Reduced scale },
+    pub ghost below: { unreduced p words.now ≡ false },
 }
 
-// Each row from `skip` on by the eq of the row `skip` before it. With one row, and where a row is one word, both sides are the same.
-pub fn add(side: Side, terms: Terms, point: &[u32], taken: usize, piece: &[u32], out: &mut [u32])
-    requires { Adds terms point.now taken piece.now out.old }
-    ensures { Gained 0 terms.inner (moved_by side terms point.now taken piece.now)
-        out.old out.new }
-{
-    if terms.k == 0 {
-        rows::by_rows(terms, point, taken, piece, out);
-        return;
-    }
-    match side {
-        Side::Suffix => places::by_places(terms, point, taken, piece, out),
-        Side::Prefix => {
-            if terms.inner == 1 {
-                places::by_places(terms, point, taken, piece, out);
-            } else {
-                rows::by_rows(terms, point, taken, piece, out);
-            }
+impl<'a> Piece<'a> {
+    ghost use Rattle.table.specs.Gained.{Gained};
+    ghost use Rattle.moved.specs.Moved.{Adds, moved_by};
+
+    // Each row from `skip` on by the eq of the row `skip` before it. With one row, and where a row is one word, both sides are the same.
+    pub fn add(&self, side: Side, out: &mut [u32])
+        requires { Adds self.now out.old }
+        ensures { Gained 0 self.now.inner (moved_by side self.now) out.old out.new }
+    {
+        if self.point.count == 0 || (side == Side::Prefix && self.inner != 1) {
+            self.by_rows(out);
+        } else {
+            self.by_places(out);
         }
+    }
+
+    // How many of the piece's words come before word t of the table.
+    fn before(&self, t: usize) -> usize
+        ensures { result ≡ min (length self.now.words.now) (t - self.now.taken) }
+    {
+        usize::min(self.words.len(), t.saturating_sub(self.taken))
     }
 }
 
@@ -67,12 +75,7 @@ pub fn weights_of<const N: usize>(block: &[u32], skip: usize) -> [Element; N]
     requires block { (4 * N ≤ length block.now) × (unreduced p block.now ≡ false) }
     ensures { Weighed N block.now skip result }
 {
-    let mut weights = [Element::zero(); N];
-    // By index: the row's number says which weight it is.
-    for y in 0..N {
-        weights[y] = weight_of(block, skip, y);
-    }
-    weights
+    std::array::from_fn(|y| weight_of(block, skip, y))
 }
 
 // The weight of row y: what the block's table has `skip` rows before.
@@ -84,11 +87,4 @@ fn weight_of(block: &[u32], skip: usize, y: usize) -> Element
         return Element::zero();
     }
     table::read(block, y - skip)
-}
-
-// How many of the piece's words come before word t of the table.
-fn before(taken: usize, len: usize, t: usize) -> usize
-    ensures { result ≡ min len (t - taken) }
-{
-    usize::min(len, t.saturating_sub(taken))
 }

@@ -64,10 +64,6 @@ words_append (a ∷ b ∷ []) ys h = absurd (omega arith)
 words_append (a ∷ b ∷ c ∷ []) ys h = absurd (omega arith)
 words_append (a ∷ b ∷ c ∷ d ∷ xs) ys h = ap (λ ws. word_of a b c d ∷ ws) (words_append xs ys (omega arith))
 
--- what decode gives, as the words of a part of the bytes
-pub words_part : (from n : ℕ) (bs : List ℕ) → words (take (4 * n) (drop (4 * from) bs)) ≡ take n (drop from (words bs))
-words_part from n bs = words_take n (drop (4 * from) bs) ∙ ap (take n) (words_drop from bs)
-
 -- decode from word 0 into a slice of as many words as the bytes make
 pub words_whole : (n : ℕ) (bs : List ℕ) → 4 * n ≡ length bs → take n (drop 0 (words bs)) ≡ words bs
 words_whole n bs e = take_all n (words bs) (omega (arith, words_length bs))

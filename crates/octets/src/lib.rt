@@ -21,8 +21,8 @@ pub fn decode(bytes: &[u8], from: usize, ws: &mut [u32])
     requires { 4 * (from + length ws.old) ≤ length bytes.now }
     ensures { ws.new ≡ take (length ws.old) (drop from (words bytes.now)) }
 {
-    for i in 0..ws.len() {
-        ws[i] = word_at(bytes, from + i);
+    for (i, w) in ws.iter_mut().enumerate() {
+        *w = word_at(bytes, from + i);
     }
 }
 

@@ -111,7 +111,7 @@ module _ (plan : Plan) (taken : ℕ) (last : List ℕ) where
         (tail_laws field_ring).constant plan.side plan.weight (places plan) (coordinates_of plan) (from_words plan.scale)
         (base (get_or last i 0)) (λ t. base (missing t)) i m
         (λ y b l. ap base (ap missing (stands y) ∙ placed_before taken _ (y * places plan + i) (before y b)) ∙ base_zero)
-        (λ y b l. ap base (ap missing (stands y) ∙ last_there i y h (rw (all_rows plan) at l) (behind y b)))
+        (λ y b l. ap base (ap missing (stands y) ∙ last_there i y h (rw (all_rows plan.coordinates plan.k) at l) (behind y b)))
       where
         stands : (y : ℕ) → word_of plan.side (places plan) (2 ^ length (coordinates_of plan)) i y ≡ y * places plan + i
         stands y = ap (λ s. word_of s (places plan) (2 ^ length (coordinates_of plan)) i y) side-is

@@ -1,22 +1,21 @@
 -- The last row repeated: the places before a part of a row lack a row less than the others. Assumes nothing.
 use mathlib.Core.Path.{◌≡◌, sym, ap, ap₂, ◌∙◌}
-use Prim.Native.Nat.{ℕ, suc, ◌+◌, ◌-◌, ◌*◌, ◌/◌, ◌%◌, ◌^◌, ◌≤◌, ◌<◌}
-use native.Mathlib.Nat.{mul-le-mul_right, div-add-mod', mod-lt, div-le_self}
+use Prim.Native.Nat.{ℕ, suc, ◌+◌, ◌-◌, ◌*◌, ◌/◌, ◌%◌, ◌≤◌, ◌<◌}
+use native.Mathlib.Nat.{mul-le-mul_right, div-add-mod', mod-lt}
 use native.Mathlib.Omega.{arith}
 use mathlib.Core.List.{List}
 use lib.ListN.{get_or}
-use lib.Pow.{pow_pos, pow_mono}
+use lib.Pow.{pow_pos}
 use Rattle.multilinear.specs.declared.Side.TheVariants.{Prefix}
-use Rattle.field.specs.Field.{Ext, field, base, from_words, Holds}
+use Rattle.field.specs.Field.{field, base, from_words, Holds}
 use Rattle.field.specs.declared.Element.{Element}
 use Rattle.field.proofs.Laws.{read_as}
-use Rattle.table.specs.Refusals.{most}
 use Rattle.table.specs.Gained.{Gained}
 use Rattle.table.proofs.Gaining.{gained_as, gained_table, blocks}
 use Rattle.plan.specs.declared.Plan.{Plan}
 use Rattle.plan.specs.Plan.{places, gained_by}
 use Rattle.padding.specs.Last.{missing_words, Pads}
-use Rattle.padding.specs.Inner.{scaled_tail, Spreads}
+use Rattle.padding.specs.Inner.{scaled_tail}
 use Rattle.padding.proofs.Missing.{gain, gain_is}
 
 -- words in rows of `inner`, of which `taken` came: those of a place that are before word `taken`
@@ -82,42 +81,8 @@ module _ {plan : Plan} {taken : ℕ} {last out : List ℕ} (a : Pads plan taken 
       let all = blocks 0 part (places plan - part) _ (gain plan taken last) out w w' left (rw o e) high in
       gained_table (places plan) (gain plan taken last) out w' (rw n at all) a.room
 
--- the numbers, what both calls find, and what they give
+-- with the code's number of places
 module _ {plan : Plan} {taken : ℕ} {last out : List ℕ} (a : Pads plan taken last out) {inner : ℕ} (i : inner ≡ places plan) where
-  pub some : 0 < inner
-  some = rw i (pow_pos (plan.n - plan.k))
-
-  pub row_small : taken / inner ≤ 2 ^ most
-  row_small =
-      let m : 2 ^ plan.n ≤ 2 ^ most = pow_mono a.sound.small in
-      omega (arith, div-le_self taken inner, a.within, m)
-
-  part_below : taken % inner < inner
-  part_below = mod-lt taken some
-
-  pub first : {weight : Element} {x : Ext} → Holds weight x → Spreads 0 (taken % inner) last weight out
-  first h =
-      record {
-        after = omega arith;
-        last_room = omega (arith, i, part_below, a.last_room);
-        last_below = a.last_below;
-        weight_is = h.below;
-        room = omega (arith, i, part_below, a.room);
-        out_below = a.out_below;
-      }
-
-  pub second : {weight : Element} {x : Ext} {m : ℕ} {g : ℕ → Ext} {w : List ℕ} → Holds weight x → Gained 0 m g out w
-      → Spreads (taken % inner) inner last weight w
-  second h d =
-      record {
-        after = omega (arith, part_below);
-        last_room = omega (arith, i, a.last_room);
-        last_below = a.last_below;
-        weight_is = h.below;
-        room = omega (arith, i, d.len, a.room);
-        out_below = d.below a.out_below;
-      }
-
   pub repeated : plan.side ≡ Prefix → inner ≤ taken → {v u : Element} {w w' : List ℕ} → Holds v (scaled_tail plan (taken / inner + 1))
       → Gained 0 (taken % inner - 0) (λ y. field.mul (from_words v) (base (get_or last (0 + y) 0))) out w
       → Holds u (scaled_tail plan (taken / inner))

@@ -10,22 +10,25 @@ ghost use Rattle.std.specs.Prelude.{◌≡◌, ◌+◌, ◌-◌, ◌%◌, ◌^�
 ghost use Rattle.algebra.specs.Ring.{Ops};
 ghost use Rattle.algebra.specs.Words.{unreduced};
 ghost use Rattle.multilinear.specs.declared.Side.TheVariants.{Prefix};
+ghost use Rattle.multilinear.specs.Tails.{tail_at};
 ghost use Rattle.field.specs.Field.{field, base, from_words, Holds};
 ghost use Rattle.table.specs.Gained.{Gained};
-ghost use Rattle.plan.specs.Plan.{rows, places, gained_by};
-ghost use Rattle.plan.specs.Sound.{Sound};
+ghost use Rattle.plan.specs.Plan.{gained_by};
+ghost use Rattle.point.specs.Points.{coordinates};
 ghost use Rattle.padding.specs.Last.{kept, missing_words, Rows, Pads};
-ghost use Rattle.padding.specs.Inner.{tail_of, scaled_tail, Spreads};
+ghost use Rattle.padding.specs.Inner.{Spreads};
 
 use field::Element;
 use multilinear::{Side, Weight};
 use plan::Plan;
+use point::{Point, equality};
 
 // Words come from word `taken` on, in rows of `inner`: last keeps the last one of each place.
 pub fn keep(inner: usize, taken: usize, words: &[u32], last: &mut [u32])
     requires { Rows inner last.old }
     ensures { last.new ≡ kept inner taken words.now last.old }
 {
+    // The place is counted on: `(taken + i) % inner` would be a division a word.
     let mut place = taken % inner;
     for word in words {
         last[place] = *word;
@@ -60,14 +63,20 @@ fn repeat_row(plan: Plan, taken: usize, last: &[u32], out: &mut [u32])
     requires { Pads plan taken last.now out.old × (plan.side ≡ Prefix) }
     ensures { out.new ≡ gained_by plan taken (missing_words plan taken last.now) out.old }
 {
-    let inner = table::rows(plan.n - plan.k);
+    let inner = plan.places();
     if taken < inner {
         return;
     }
     let row = taken / inner;
     let part = taken % inner;
-    spread(last, 0, part, scaled_tail(plan, row + 1), out);
-    spread(last, part, inner, scaled_tail(plan, row), out);
+    let point = Point {
+        words: &plan.coordinates,
+        count: plan.k,
+    };
+    let scale = plan.scale;
+    let weight = plan.weight;
+    spread(last, 0, part, scale.mul(tail(point, weight, row + 1)), out);
+    spread(last, part, inner, scale.mul(tail(point, weight, row)), out);
 }
 
 // The places from `from` to `to` gain their last word times the weight.
@@ -76,38 +85,27 @@ fn spread(last: &[u32], from: usize, to: usize, weight: Element, out: &mut [u32]
     ensures { Gained from (to - from) (λ i. field.mul (from_words weight) (base (get_or last.now (from + i) 0)))
         out.old out.new }
 {
-    // By index: a turn takes a word of last and an element of out.
-    for i in from..to {
-        let word = last[i];
-        table::put(out, i, table::read(out, i).add(weight.mul_base(word)));
+    for (i, word) in last[from..to].iter().enumerate() {
+        let place = from + i;
+        let gain = weight.mul_base(*word);
+        table::put(out, place, table::read(out, place).add(gain));
     }
-}
-
-// scale (weight[row] + weight[row + 1] + .. + weight[2^k - 1]).
-fn scaled_tail(plan: Plan, row: usize) -> Element
-    requires { Sound plan }
-    ensures { Holds result (scaled_tail plan row) }
-{
-    if table::rows(plan.k) <= row {
-        return Element::zero();
-    }
-    let scale = plan.scale;
-    scale.mul(tail(plan, row))
 }
 
 // weight[row] + weight[row + 1] + .. + weight[2^k - 1].
-fn tail(plan: Plan, row: usize) -> Element
-    requires { Sound plan × (row < rows plan) }
-    ensures { Holds result (tail_of plan row) }
+#[tactic(auto, using(crate::proofs::Weights::none_left))]
+fn tail(point: Point, weight: Weight, row: usize) -> Element
+    ensures { Holds result (tail_at field weight (coordinates point.entry) row) }
 {
-    let point = plan.coordinates;
-    let k = plan.k;
-    match plan.weight {
-        Weight::Plain => point::equality::from_row(&point, k, row),
+    if table::rows(point.count) <= row {
+        return Element::zero();
+    }
+    match weight {
+        Weight::Plain => equality::from_row(point, row),
         Weight::Shifted => {
-            let sum = point::equality::from_row(&point, k, row.saturating_sub(1));
-            sum.sub(point::equality::at_row(&point, k, table::rows(k) - 1))
+            let sum = equality::from_row(point, row.saturating_sub(1));
+            sum.sub(equality::at_row(point, table::rows(point.count) - 1))
         }
-        Weight::Next => point::equality::from_row(&point, k, row.saturating_sub(1)),
+        Weight::Next => equality::from_row(point, row.saturating_sub(1)),
     }
 }

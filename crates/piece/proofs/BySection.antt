@@ -21,11 +21,11 @@ use Rattle.plan.specs.Section.{section_of, origin_of}
 use Rattle.plan.proofs.Sections.{places_of, section}
 use Rattle.piece.proofs.Fronts.{Front, front_start, front_lent, front_turn, front_end}
 
--- out is no longer than that of a largest table
-pub few : {plan : Plan} {table out : List ℕ} → Fills plan table out → length out ≤ 4194304
-few {plan} s =
-    let le : 2 ^ (plan.n - plan.k) ≤ 2 ^ 20 = pow_mono {j = 20} (omega (arith, s.sound.small)) in
-    omega (arith, le, s.room)
+-- a table is no longer than a largest one
+pub few_words : {plan : Plan} {table out : List ℕ} → Fills plan table out → length table ≤ 2 ^ 20
+few_words {plan} s =
+    let le : 2 ^ plan.n ≤ 2 ^ 20 = pow_mono {j = 20} (omega (arith, s.sound.small)) in
+    omega (arith, le, s.count)
 
 -- place i of the whole fold
 abbrev whole_at : Plan → List ℕ → ℕ → Ext

@@ -1,6 +1,6 @@
 -- Whole places of two words or four, set from their words by the weights of their rows. Assumes nothing.
 use mathlib.Core.Path.{◌≡◌, sym, ap, ap₂, ◌∙◌}
-use Prim.Native.Nat.{ℕ, ◌+◌, ◌*◌}
+use Prim.Native.Nat.{ℕ, ◌+◌, ◌-◌, ◌*◌}
 use native.Mathlib.Nat.{mul_comm}
 use native.Mathlib.Omega.{arith}
 use mathlib.Core.List.{List}
@@ -12,7 +12,7 @@ use Rattle.multilinear.proofs.Weighed.{moved_own}
 use Rattle.field.specs.Field.{field, base, from_words}
 use Rattle.field.specs.declared.Element.{Element}
 use Rattle.field.proofs.Laws.{field_ring}
-use Rattle.table.specs.Table.{table_words}
+use Rattle.table.specs.Table.{entries, table_words}
 use Rattle.table.proofs.Laws.{table_ext}
 use Rattle.kernel.specs.Kernel.{Groups, weighed, words_at}
 use Rattle.weigh.specs.Weigh.{Block}
@@ -26,6 +26,10 @@ use Rattle.plan.proofs.Sections.{all_words}
 use Rattle.piece.specs.Inner.{Unowned}
 use Rattle.piece.proofs.own.Owning.{no_own}
 
+-- out has an element for each place
+pub counted : {plan : Plan} {table out : List ℕ} → Fills plan table out → entries out ≡ places plan
+counted f = omega (arith, f.room)
+
 module _ {plan : Plan} {table out : List ℕ} (f : Fills plan table out) {n : ℕ} (q : n ≡ places plan) where
   -- m words for each place
   pub grouped : {m : ℕ} → m ≡ rows plan → Groups m 0 n out table × (length out ≡ 4 * n)
@@ -35,16 +39,20 @@ module _ {plan : Plan} {table out : List ℕ} (f : Fills plan table out) {n : �
       (record { room = omega (arith, r); there = omega (arith, t); words_below = f.below }, r)
 
   module _ {block : List ℕ} {skip : ℕ} (side : plan.side ≡ Suffix) (u : Unowned plan) (s : skip ≡ skip_of plan.weight)
-      (b : Block 0 plan.k plan.coordinates (from_words plan.scale) block) where
+      (b : Block (plan.k - plan.k) plan.k plan.coordinates (from_words plan.scale) block) where
     -- the word of row y of place i, where a place has m words
     abbrev word : ℕ → ℕ → ℕ → ℕ
     word m i y = get_or table (i * m + y) 0
+
+    none_before : plan.k - plan.k ≡ 0
+    none_before = omega arith
 
     place_is : {m : ℕ} → m ≡ rows plan → (i : ℕ)
         → sum_to field m (λ y. field.mul (weight_of block skip y) (base (word m i y))) ≡ place_of plan (λ t. base (get_or table t 0)) i
     place_is e i =
         ap (λ l. sum_to field l (λ y. field.mul (weight_of block skip y) (base (word l i y)))) e
-        ∙ row_sum plan.k plan.coordinates _ (places plan) skip (λ t. get_or table t 0) i block (rw s (skip_small plan.weight)) b.holds
+        ∙ row_sum plan.k plan.coordinates _ (places plan) skip (λ t. get_or table t 0) i block
+        (rw s (skip_small plan.weight)) (rw none_before at b.holds)
         ∙ ap₂ (λ d l. moved_at field d l (places plan) (coordinates_of plan) (from_words plan.scale) (λ t. base (get_or table t 0)) i) (sym side) s
         ∙ sym (field_ring.add_zero _)
         ∙ ap (field.add _) (sym (no_own plan.side plan.weight (places plan) (coordinates_of plan) _ (λ t. base (get_or table t 0)) i u))

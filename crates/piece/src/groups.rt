@@ -6,6 +6,7 @@ ghost use Rattle.plan.specs.Sound.{Fills};
 ghost use Rattle.piece.specs.Inner.{Unowned};
 
 use plan::Plan;
+use point::Point;
 
 // out becomes the fold of the whole table, where no row has a weight of its own. Places of more words, or of one, go by sections.
 pub fn by_groups(plan: Plan, table: &[u32], out: &mut [u32])
@@ -18,12 +19,15 @@ pub fn by_groups(plan: Plan, table: &[u32], out: &mut [u32])
     }
     let scale = plan.scale;
     let coordinates = plan.coordinates;
-    let block = weigh::small_block_of(&coordinates, 0, plan.k, scale);
+    let point = Point {
+        words: &coordinates,
+        count: plan.k,
+    };
+    let block = weigh::small_block_of(point, plan.k, scale);
     let skip = moved::skip_of(plan.weight);
-    let n = table::rows(plan.n - plan.k);
     if plan.k == 1 {
-        kernel::set_groups(out, table, n, moved::weights_of::<2>(&block, skip));
+        kernel::set_groups(out, table, moved::weights_of::<2>(&block, skip));
     } else {
-        kernel::set_groups(out, table, n, moved::weights_of::<4>(&block, skip));
+        kernel::set_groups(out, table, moved::weights_of::<4>(&block, skip));
     }
 }

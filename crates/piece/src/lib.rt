@@ -6,46 +6,55 @@
 
 mod groups;
 mod own;
-mod sections;
+pub mod sections;
 
-ghost use Rattle.std.specs.Prelude.{◌≡◌};
-ghost use Rattle.table.specs.Gained.{Gained};
-ghost use Rattle.plan.specs.Plan.{fold_of, gained_by};
-ghost use Rattle.plan.specs.Sound.{Takes, Fills};
-ghost use Rattle.piece.specs.Inner.{Given, terms_by};
+ghost use Rattle.std.specs.Prelude.{◌≡◌, false, ◌+◌, ◌≤◌, length};
+ghost use Rattle.algebra.specs.Words.{unreduced};
+ghost use Rattle.field.specs.Field.{p};
+ghost use Rattle.point.specs.Points.{coordinates};
+ghost use Rattle.plan.specs.Plan.{places, capacity, coordinates_of, fold_of, gained_by};
+ghost use Rattle.plan.specs.Sound.{Sound, Takes, Fills};
 
-use moved::Terms;
+use moved::Piece;
 use multilinear::{Side, Weight};
 use plan::Plan;
+use point::Point;
 
 // out gains scale weight word at each word's place.
 pub fn add(plan: Plan, taken: usize, piece: &[u32], out: &mut [u32])
     requires { Takes plan taken piece.now out.old }
     ensures { out.new ≡ gained_by plan taken piece.now out.old }
 {
+    let piece = piece_of(&plan, taken, piece);
     let side = plan.side;
-    let weight = plan.weight;
-    let scale = plan.scale;
-    let coordinates = plan.coordinates;
-    let terms = Terms {
-        k: plan.k,
-        inner: table::rows(plan.n - plan.k),
-        weight,
-        scale,
-    };
-    add_terms(side, terms, &coordinates, taken, piece, out);
+    piece.add(side, out);
+    own::add_own(side, &piece, out);
 }
 
-// The rows that are moved on, and the row with a weight of its own, at the first k coordinates.
-fn add_terms(side: Side, terms: Terms, words: &[u32], taken: usize, piece: &[u32], out: &mut [u32])
-    requires { Given terms words.now taken piece.now out.old }
-    ensures { Gained 0 terms.inner (terms_by side terms words.now taken piece.now)
-        out.old out.new }
+// A piece of a plan's table.
+fn piece_of<'a>(plan: &'a Plan, taken: usize, words: &'a [u32]) -> Piece<'a>
+    requires sound { Sound plan.now }
+    requires within { taken + length words.now ≤ capacity plan.now }
+    requires below { unreduced p words.now ≡ false }
+    ensures point { coordinates result.point ≡ coordinates_of plan.now }
+    ensures weight { result.weight ≡ plan.now.weight }
+    ensures scale { result.scale ≡ plan.now.scale }
+    ensures inner { result.inner ≡ places plan.now }
+    ensures taken { result.taken ≡ taken }
+    ensures words { result.words.now ≡ words.now }
 {
-    let count = 4 * terms.k;
-    let point = &words[..count];
-    moved::add(side, terms, point, taken, piece, out);
-    own::add_own(side, terms, point, taken, piece, out);
+    let point = Point {
+        words: &plan.coordinates,
+        count: plan.k,
+    };
+    Piece {
+        point,
+        weight: plan.weight,
+        scale: plan.scale,
+        inner: plan.places(),
+        taken,
+        words,
+    }
 }
 
 // out becomes the fold of the whole table. On the suffix side places of two words or four are set, where no row has a weight of its own;

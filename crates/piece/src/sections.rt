@@ -7,7 +7,7 @@ ghost use Rattle.plan.specs.Sound.{Fills};
 use plan::Plan;
 
 // The most places of a section, as variables: 16 KiB of out.
-const HELD: usize = 10;
+pub const HELD: usize = 10;
 
 // out becomes the fold of the whole table.
 pub fn by_sections(plan: Plan, table: &[u32], out: &mut [u32])
@@ -17,7 +17,7 @@ pub fn by_sections(plan: Plan, table: &[u32], out: &mut [u32])
     let held = usize::min(plan.n - plan.k, HELD);
     let places = table::rows(held);
     let words = table::rows(plan.k + held);
-    // By index: a section's words and its places are parts of different lengths.
+    // By number: of the parts that `chunks_exact_mut` lends nothing is known, so that the proof does not close.
     for j in 0..table::rows(plan.n - plan.k - held) {
         let a = words * j;
         let b = a + words;

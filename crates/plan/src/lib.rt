@@ -3,9 +3,9 @@
 //     rows 2^k, places 2^(n - k)      a table of 2^n words: one for each place of each row
 #![tactic(auto)]
 
-ghost use Rattle.std.specs.Prelude.{◌≡◌, ◌-◌, ◌*◌, ◌≤◌, length, replicate};
+ghost use Rattle.std.specs.Prelude.{◌≡◌, ◌-◌, ◌*◌, ◌≤◌, length};
 ghost use Rattle.table.specs.Refusals.{most};
-ghost use Rattle.plan.specs.Plan.{padded, plan_of};
+ghost use Rattle.plan.specs.Plan.{padded, rows, places, capacity};
 ghost use Rattle.plan.specs.Sound.{Sound};
 ghost use Rattle.plan.specs.Section.{section_of};
 
@@ -15,6 +15,7 @@ use multilinear::{Side, Weight};
 // The words of the most coordinates.
 pub const WORDS: usize = 4 * table::MOST;
 
+// Contracts say what is sound (`Sound`), and not the type: the definitions of the ledger make a plan of what a call gives, before its tests.
 #[derive(Clone, Copy, Debug, PartialEq, Eq)]
 pub struct Plan {
     pub n: usize,
@@ -26,6 +27,30 @@ pub struct Plan {
 }
 
 impl Plan {
+    // The rows of the table: 2^k.
+    pub fn rows(&self) -> usize
+        requires { self.now.k ≤ most }
+        ensures { result ≡ rows self.now }
+    {
+        table::rows(self.k)
+    }
+
+    // The places of a row: 2^(n - k).
+    pub fn places(&self) -> usize
+        requires { (self.now.k ≤ self.now.n) × (self.now.n - self.now.k ≤ most) }
+        ensures { result ≡ places self.now }
+    {
+        table::rows(self.n - self.k)
+    }
+
+    // The words of the table: 2^n.
+    pub fn words(&self) -> usize
+        requires { self.now.n ≤ most }
+        ensures { result ≡ capacity self.now }
+    {
+        table::rows(self.n)
+    }
+
     // The plan of 2^held places of the fold.
     pub fn section(self, held: usize) -> Plan
         requires { Sound self × (held ≤ self.n - self.k) }
@@ -38,34 +63,12 @@ impl Plan {
     }
 }
 
-// The plan of k coordinates, of which these words are given; the others are 0.
-pub fn new(n: usize, k: usize, side: Side, weight: Weight, scale: Element, point: &[u32]) -> Plan
-    requires { length point.now ≤ 4 * most }
-    ensures { result ≡ plan_of n k side weight scale point.now }
-{
-    Plan {
-        n,
-        k,
-        side,
-        weight,
-        scale,
-        coordinates: padded(point),
-    }
-}
-
-// The words, and zeros behind them.
-fn padded(point: &[u32]) -> [u32; WORDS]
+// A plan's coordinates: the words of a point, and zeros behind them.
+pub fn padded(point: &[u32]) -> [u32; WORDS]
     requires { length point.now ≤ 4 * most }
     ensures { result ≡ padded point.now }
 {
     let mut words = [0u32; WORDS];
     words[..point.len()].copy_from_slice(point);
     words
-}
-
-// Room for the coordinates.
-pub fn room() -> [u32; WORDS]
-    ensures { result ≡ replicate (4 * most) 0 }
-{
-    [0u32; WORDS]
 }

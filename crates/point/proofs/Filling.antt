@@ -27,10 +27,6 @@ unfoldable pub entered : BitOrder → List ℕ → ℕ → ℕ → List Ext
 entered order ps k zero = []
 entered order ps k (suc m) = element_at ps (entering order k m) ∷ entered order ps k m
 
-pub entering_lt : (order : BitOrder) (k i : ℕ) → i < k → entering order k i < k
-entering_lt Msb k i h = omega arith
-entering_lt Lsb k i h = h
-
 entered_length : (order : BitOrder) (ps : List ℕ) (k m : ℕ) → length (entered order ps k m) ≡ m
 unfolding entered
 entered_length order ps k zero = refl
@@ -95,6 +91,11 @@ start order ps k w l r =
           let y0 : y ≡ 0 = omega arith in
           ap (get_at w) y0 ∙ words_again (get_at w 0) refl r ∙ ap to_words (sym (field_ring.mul_one (element_at w 0)));
     }
+
+-- the same of the scale that stands there
+pub start_at : (order : BitOrder) (ps : List ℕ) (k : ℕ) (scale : Element) (w : List ℕ) → length w ≡ 4 * 2 ^ k → get_at w 0 ≡ scale
+    → Reduced scale → Filling (from_words scale) order ps k 0 1 w
+start_at order ps k scale w l e r = rw e at (start order ps k w l (rw e r))
 
 module _ (s : Ext) (order : BitOrder) (ps : List ℕ) (k i len : ℕ) (out : List ℕ) (f : Filling s order ps k i len out) (m : i < k) where
   -- the table doubled once more fits

@@ -1,5 +1,6 @@
 pub mod Rest
 pub mod Coordinates
+mod Bits
 mod Climbing
 mod Doubling
 mod Filling

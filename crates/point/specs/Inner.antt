@@ -1,11 +1,10 @@
 -- What the inner functions take and give. No operation that users call cites it. Assumes nothing.
-use Rattle.std.specs.Prelude.{◌≡◌, ℕ, ◌+◌, ◌-◌, ◌*◌, ◌^◌, ◌≤◌, ◌<◌, List, length}
+use Rattle.std.specs.Prelude.{◌≡◌, ℕ, ◌+◌, ◌-◌, ◌*◌, ◌≤◌, ◌<◌, List, length}
 use Rattle.algebra.specs.Ring.{minus}
 use Rattle.field.specs.Field.{Ext, field, to_words, Reduced}
 use Rattle.field.specs.declared.Element.{Element}
 use Rattle.table.specs.Table.{get_at, element_at}
 use Rattle.point.specs.declared.equality.BitOrder.{BitOrder}
-use Rattle.point.specs.Coordinates.{Coordinates}
 use Rattle.point.specs.declared.equality.BitOrder.TheVariants.{Msb, Lsb}
 
 -- the coordinate that doubles the table at step i of k
@@ -25,15 +24,3 @@ pub record Doubles (n : ℕ) (c : Element) (ws : List ℕ) : Type 0 where
   pub room : 8 * n ≤ length ws
   pub below : (y : ℕ) → y < n → Reduced (get_at ws y)
   pub by : Reduced c
-
--- a table of k coordinates and a scale has room in out
-pub record Fits (k : ℕ) (point : List ℕ) (scale : Element) (out : List ℕ) : Type 0 where
-  pub point_is : Coordinates k point
-  pub scale_is : Reduced scale
-  pub room : length out ≡ 4 * 2 ^ k
-
--- high coordinates, then low ones, and a scale, whose table has room in out
-pub record Follows (high low : ℕ) (point : List ℕ) (scale : Element) (out : List ℕ) : Type 0 where
-  pub point_is : Coordinates (high + low) point
-  pub scale_is : Reduced scale
-  pub room : length out ≡ 4 * 2 ^ low

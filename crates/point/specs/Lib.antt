@@ -1,3 +1,4 @@
 pub mod Point
 pub mod Coordinates
 pub mod Inner
+pub mod Points

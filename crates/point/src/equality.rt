@@ -1,18 +1,19 @@
 // Equality: at one vertex, and the table of every row.
-ghost use Rattle.std.specs.Prelude.{◌≡◌, ◌+◌, ◌*◌, ◌^◌, ◌<◌, leb};
+ghost use Rattle.std.specs.Prelude.{◌≡◌, ◌*◌, ◌^◌, ◌<◌, leb, length};
 ghost use Rattle.algebra.specs.Ring.{Ops};
 ghost use Rattle.multilinear.specs.declared.Weight.TheVariants.{Plain};
 ghost use Rattle.multilinear.specs.Equality.{for_bit, eq_at};
 ghost use Rattle.multilinear.specs.Tails.{tail_at};
 ghost use Rattle.multilinear.specs.Inner.{tail_step};
 ghost use Rattle.field.specs.Field.{field, from_words, Reduced, Holds};
-ghost use Rattle.table.specs.Table.{table_words, elements};
+ghost use Rattle.table.specs.Table.{table_words};
 ghost use Rattle.table.specs.Refusals.{answer, outcome, verdict};
 ghost use Rattle.point.specs.declared.equality.BitOrder.TheVariants.{Msb, Lsb};
 ghost use Rattle.point.specs.Point.{vertex_tests, vertex_answer, table_answer, equality_out, eq_by};
-ghost use Rattle.point.specs.Inner.{entering, Doubled, Doubles, Fits, Follows};
-ghost use Rattle.point.specs.Coordinates.{Coordinates};
+ghost use Rattle.point.specs.Inner.{entering, Doubled, Doubles};
+ghost use Rattle.point.specs.Points.{coordinates};
 
+use crate::Point;
 use field::Element;
 use multiplier::Multiplier;
 use table::Refusal;
@@ -26,13 +27,26 @@ pub enum BitOrder {
     Lsb,
 }
 
+impl BitOrder {
+    // The coordinate that doubles the table at step i of k: the one of the lowest bit first.
+    fn entering(self, k: usize, i: usize) -> usize
+        requires { i < k }
+        ensures { result ≡ entering self k i }
+    {
+        match self {
+            BitOrder::Msb => k - 1 - i,
+            BitOrder::Lsb => i,
+        }
+    }
+}
+
 // eq[vertex].
 #[tactic(auto, using(table::proofs::Outcomes::outcomes), unfolding(crate::specs::Point::vertex_answer))]
 pub fn equality_at_vertex(point: &[u32], vertex: usize) -> Result<Element, Refusal>
     ensures { outcome result ≡ vertex_answer point.now vertex }
 {
     test_vertex(point, vertex)?;
-    Ok(at_row(point, point.len() / 4, vertex))
+    Ok(at_row(Point::of(point), vertex))
 }
 
 // out becomes the table of eq.
@@ -42,10 +56,11 @@ pub fn equality_table(point: &[u32], order: BitOrder, out: &mut [u32]) -> Result
     ensures out_after { out.new ≡ equality_out order point.now out.old }
 {
     test_table(point, out)?;
-    fill(out, point, point.len() / 4, order, Element::one());
+    fill(out, Point::of(point), order, Element::one());
     Ok(())
 }
 
+// Document 01 names an operation for each bit order: this one has coordinate 0 with the highest bit.
 pub fn equality_weights_msb(point: &[u32], out: &mut [u32]) -> Result<(), Refusal>
     ensures result_value { answer result ≡ table_answer point.now out.old }
     ensures out_after { out.new ≡ equality_out Msb point.now out.old }
@@ -53,6 +68,7 @@ pub fn equality_weights_msb(point: &[u32], out: &mut [u32]) -> Result<(), Refusa
     equality_table(point, BitOrder::Msb, out)
 }
 
+// Document 01 names an operation for each bit order: this one has coordinate 0 with the lowest bit.
 pub fn equality_weights_lsb(point: &[u32], out: &mut [u32]) -> Result<(), Refusal>
     ensures result_value { answer result ≡ table_answer point.now out.old }
     ensures out_after { out.new ≡ equality_out Lsb point.now out.old }
@@ -104,14 +120,14 @@ fn for_bit(bit: usize, c: Element) -> Element
 }
 
 // eq[row], from the last coordinate, which goes with the lowest bit, back to coordinate 0.
-pub fn at_row(point: &[u32], k: usize, row: usize) -> Element
-    requires { Coordinates k point.now }
-    ensures { Holds result (eq_at field (elements point.now 0 k) row) }
+pub fn at_row(point: Point, row: usize) -> Element
+    ensures { Holds result (eq_at field (coordinates point.entry) row) }
 {
     let mut product = Element::one();
     let mut left = row;
-    for j in (0..k).rev() {
-        let c = table::read(point, j);
+    // By number, from the last coordinate back: a coordinate is four words, which `read` takes together.
+    for j in (0..point.count).rev() {
+        let c = point.read(j);
         let f = for_bit(left % 2, c);
         product = f.mul(product);
         left /= 2;
@@ -120,14 +136,15 @@ pub fn at_row(point: &[u32], k: usize, row: usize) -> Element
 }
 
 // eq[row] + eq[row + 1] + .. + eq[2^k - 1], by a product a coordinate, from the last coordinate back to coordinate 0.
-pub fn from_row(point: &[u32], k: usize, row: usize) -> Element
-    requires { Coordinates k point.now × (row < 2 ^ k) }
-    ensures { Holds result (tail_at field Plain (elements point.now 0 k) row) }
+pub fn from_row(point: Point, row: usize) -> Element
+    requires { row < 2 ^ point.count }
+    ensures { Holds result (tail_at field Plain (coordinates point.entry) row) }
 {
     let mut sum = Element::one();
     let mut left = row;
-    for j in (0..k).rev() {
-        let c = table::read(point, j);
+    // By number, from the last coordinate back: a coordinate is four words, which `read` takes together.
+    for j in (0..point.count).rev() {
+        let c = point.read(j);
         sum = tail_step(left % 2, c, sum);
         left /= 2;
     }
@@ -146,40 +163,19 @@ fn tail_step(bit: usize, c: Element, sum: Element) -> Element
     c.mul(sum)
 }
 
-// The table of scale eq in a bit order, by 2^k - 1 products: each coordinate doubles it, as a new highest bit.
-pub fn fill(out: &mut [u32], point: &[u32], k: usize, order: BitOrder, scale: Element)
-    requires { Fits k point.now scale out.old }
+// The table of scale eq in a bit order, by 2^k - 1 products: each of the k coordinates doubles it, as a new highest bit.
+pub fn fill(out: &mut [u32], point: Point, order: BitOrder, scale: Element)
+    requires { Reduced scale × (length out.old ≡ 4 * 2 ^ point.count) }
     ensures { out.new
-        ≡ table_words (2 ^ k) (λ y. field.mul (from_words scale) (eq_by order (elements point.now 0 k) y)) }
+        ≡ table_words (2 ^ point.entry.count) (λ y. field.mul (from_words scale) (eq_by order (coordinates point.entry) y)) }
 {
     table::put(out, 0, scale);
     let mut len = 1;
     // By number: the order says which coordinate enters at step i.
-    for i in 0..k {
-        let c = table::read(point, entering(order, k, i));
+    for i in 0..point.count {
+        let c = point.read(order.entering(point.count, i));
         double(out, len, c);
         len = len * 2;
-    }
-}
-
-// The table of scale eq of the low coordinates that follow the first high ones.
-pub fn fill_last(out: &mut [u32], point: &[u32], high: usize, low: usize, scale: Element)
-    requires { Follows high low point.now scale out.old }
-    ensures { out.new
-        ≡ table_words (2 ^ low) (λ y. field.mul (from_words scale) (eq_at field (elements point.now high low) y)) }
-{
-    let skipped = 4 * high;
-    fill(out, &point[skipped..], low, BitOrder::Msb, scale);
-}
-
-// The coordinate that enters at step i: the one of the lowest bit first.
-fn entering(order: BitOrder, k: usize, i: usize) -> usize
-    requires { i < k }
-    ensures { result ≡ entering order k i }
-{
-    match order {
-        BitOrder::Msb => k - 1 - i,
-        BitOrder::Lsb => i,
     }
 }
 
@@ -191,7 +187,7 @@ fn double(out: &mut [u32], n: usize, c: Element)
     ensures { Doubled n n (from_words c) out.old out.new }
 {
     let m = Multiplier::new(c);
-    // By number: nothing is known of halves that `chunks_exact_mut` lent.
+    // By number: nothing is known of an element that `chunks_exact_mut` lent.
     for i in 0..n {
         let v = table::get(out, i);
         let high = m.times(v);

@@ -3,11 +3,11 @@ ghost use Rattle.std.specs.Prelude.{◌≡◌, ◌<◌};
 ghost use Rattle.algebra.specs.Ring.{Ops, minus};
 ghost use Rattle.multilinear.specs.Beside.{eval_select};
 ghost use Rattle.field.specs.Field.{p, field, base, from_words, Reduced, Holds};
-ghost use Rattle.table.specs.Table.{elements};
 ghost use Rattle.table.specs.Refusals.{answer, outcome, verdict};
 ghost use Rattle.point.specs.Point.{select_tests, eval_select_answer};
-ghost use Rattle.point.specs.Coordinates.{Coordinates};
+ghost use Rattle.point.specs.Points.{coordinates};
 
+use crate::Point;
 use field::Element;
 use table::Refusal;
 
@@ -17,7 +17,7 @@ pub fn eval_select(var: u32, point: &[u32]) -> Result<Element, Refusal>
     ensures { outcome result ≡ eval_select_answer var point.now }
 {
     test_select(var, point)?;
-    Ok(selection(var, point, point.len() / 4))
+    Ok(selection(var, Point::of(point)))
 }
 
 #[tactic(auto, using(table::proofs::Verdicts::tests))]
@@ -31,14 +31,15 @@ fn test_select(var: u32, point: &[u32]) -> Result<(), Refusal>
 }
 
 // A factor for each coordinate, from the last back to coordinate 0, while var is squared.
-fn selection(var: u32, point: &[u32], k: usize) -> Element
-    requires { (var < p) × Coordinates k point.now }
-    ensures { Holds result (eval_select field (base var) (elements point.now 0 k)) }
+fn selection(var: u32, point: Point) -> Element
+    requires { var < p }
+    ensures { Holds result (eval_select field (base var) (coordinates point.entry)) }
 {
     let mut product = Element::one();
     let mut power = var;
-    for j in (0..k).rev() {
-        let f = select_factor(power, table::read(point, j));
+    // By number, from the last coordinate back: a coordinate is four words, which `read` takes together.
+    for j in (0..point.count).rev() {
+        let f = select_factor(power, point.read(j));
         product = f.mul(product);
         power = field::word::mul(power, power);
     }

@@ -2,3 +2,4 @@ mod Shifting
 mod Succeeding
 mod Next
 mod NextValue
+mod Widths

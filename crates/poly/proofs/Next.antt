@@ -11,17 +11,25 @@ use Rattle.multilinear.specs.Equality.{eq_at}
 use Rattle.multilinear.specs.Successors.{next_at}
 use Rattle.field.specs.Field.{Ext, field, from_words, Holds}
 use Rattle.field.specs.declared.Element.{Element}
-use Rattle.table.specs.Table.{element_at, table_words}
+use Rattle.table.specs.Table.{entries, element_at, table_words}
 use Rattle.table.proofs.Laws.{table_length, table_ext}
 use Rattle.table.proofs.Tests.{unreduced_table}
 use Rattle.table.proofs.Laws.{table_unscaled}
 use Rattle.poly.specs.Inner.{Weights, successor_at}
 use Rattle.table.proofs.Laws.{table_at}
 
--- a table of 2 ^ k weights, as `succeed` wants it
-pub weights : (n k : ℕ) (f : ℕ → Ext) {ws : List ℕ} → n ≡ 2 ^ k → ws ≡ table_words (2 ^ k) f → Weights n ws
-weights n k f q e =
-    rw (e, q) (record { some = pow_pos k; count = table_length (2 ^ k) f; below = unreduced_table (2 ^ k) f })
+-- words that are a table of 2 ^ k weights have as many entries, and are what `succeed` wants
+module _ (k : ℕ) (f : ℕ → Ext) {ws : List ℕ} (e : ws ≡ table_words (2 ^ k) f) where
+  pub rows : entries ws ≡ 2 ^ k
+  rows = omega (arith, ap length e, table_length (2 ^ k) f)
+
+  pub weights : Weights (entries ws) ws
+  weights =
+      record {
+        some = rw rows (pow_pos k);
+        count = omega (arith, ap length e, table_length (2 ^ k) f);
+        below = rw e (unreduced_table (2 ^ k) f);
+      }
 
 -- the successors of weights that agree on n rows agree there
 successor_ext : (n : ℕ) (f g : ℕ → Ext) → ((y : ℕ) → y < n → f y ≡ g y) → (y : ℕ) → y < n → successor_at n f y ≡ successor_at n g y

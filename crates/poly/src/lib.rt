@@ -5,13 +5,14 @@ pub mod value;
 
 ghost use Rattle.std.specs.Prelude.{◌≡◌};
 ghost use Rattle.poly.specs.Poly.{new_answer, new_out, next_out};
-ghost use Rattle.table.specs.Table.{table_words, element_at};
+ghost use Rattle.table.specs.Table.{table_words, element_at, entries};
 ghost use Rattle.table.specs.Refusals.{answer};
 ghost use Rattle.point.specs.Point.{table_answer};
 ghost use Rattle.poly.specs.Inner.{Weights, successor_at};
 
 use field::Element;
-use point::equality::BitOrder;
+use point::Point;
+use point::equality::{self, BitOrder};
 use table::Refusal;
 
 // out becomes the table of scale eq.
@@ -21,7 +22,7 @@ pub fn new_from_point(point: &[u32], scale: Element, out: &mut [u32]) -> Result<
     ensures out_after { out.new ≡ new_out point.now scale out.old }
 {
     test_scaled(point, scale, out)?;
-    point::equality::fill(out, point, point.len() / 4, BitOrder::Msb, scale);
+    equality::fill(out, Point::of(point), BitOrder::Msb, scale);
     Ok(())
 }
 
@@ -33,10 +34,10 @@ pub fn new_next_from_point(point: &[u32], out: &mut [u32]) -> Result<(), Refusal
     ensures result_value { answer result ≡ table_answer point.now out.old }
     ensures out_after { out.new ≡ next_out point.now out.old }
 {
-    point::equality::test_table(point, out)?;
-    let k = point.len() / 4;
-    point::equality::fill(out, point, k, BitOrder::Msb, Element::one());
-    succeed(out, table::rows(k));
+    equality::test_table(point, out)?;
+    let point = Point::of(point);
+    equality::fill(out, point, BitOrder::Msb, Element::one());
+    succeed(out);
     Ok(())
 }
 
@@ -44,19 +45,17 @@ pub fn new_next_from_point(point: &[u32], out: &mut [u32]) -> Result<(), Refusal
 fn test_scaled(point: &[u32], scale: Element, out: &[u32]) -> Result<(), Refusal>
     ensures { answer result ≡ new_answer point.now scale out.now }
 {
-    table::refuse_if(table::splits(point), Refusal::Split)?;
-    table::refuse_if(table::splits(out), Refusal::Split)?;
-    table::refuse_if(table::too_many(point), Refusal::TooMany)?;
-    table::refuse_if(table::rows_differ(out, point.len() / 4), Refusal::Lengths)?;
-    table::refuse_if(field::unreduced(point), Refusal::Unreduced)?;
+    equality::test_table(point, out)?;
     table::refuse_if(field::unreduced(&scale.c), Refusal::Unreduced)
 }
 
-// The n weights of out, each a row further, and the last once more.
-fn succeed(out: &mut [u32], n: usize)
-    requires { Weights n out.old }
-    ensures { out.new ≡ table_words n (successor_at n (element_at out.old)) }
+// The weights of out, each a row further, and the last once more.
+fn succeed(out: &mut [u32])
+    requires { Weights (entries out.old) out.old }
+    ensures { out.new
+        ≡ table_words (entries out.old) (successor_at (entries out.old) (element_at out.old)) }
 {
+    let n = out.len() / 4;
     let last = table::get(out, n - 1);
     out.copy_within(0..4 * (n - 1), 4);
     table::put(out, 0, Element::zero());

@@ -1,59 +1,54 @@
 // Values of a table at a point.
-ghost use Rattle.std.specs.Prelude.{◌≡◌, get_or};
+ghost use Rattle.std.specs.Prelude.{◌≡◌, ◌<◌, get_or};
 ghost use Rattle.multilinear.specs.Values.{next_value_at};
 ghost use Rattle.field.specs.Field.{field, base, Holds};
-ghost use Rattle.table.specs.Table.{elements};
 ghost use Rattle.table.specs.Refusals.{answer, outcome, verdict};
-ghost use Rattle.point.specs.Coordinates.{Coordinates};
-ghost use Rattle.poly.specs.Values.{value_tests, base_tests, ext_tests, eval_base_answer, eval_ext_answer, eval_next_base_answer};
-ghost use Rattle.weigh.specs.Weigh.{Whole};
+ghost use Rattle.point.specs.Points.{coordinates};
+ghost use Rattle.poly.specs.Values.{value_tests, eval_base_answer, eval_ext_answer, eval_next_base_answer};
+ghost use Rattle.weigh.specs.Entries.{WholeTable};
+ghost use Rattle.poly.specs.Inner.{table_tests};
 
 use field::Element;
+use point::{Point, equality};
 use table::Refusal;
+use weigh::entries::{Elements, Words};
 
 // The value of a table of base words.
-#[tactic(auto, using(table::proofs::Outcomes::outcomes), unfolding(crate::specs::Values::eval_base_answer))]
+#[tactic(auto, using(crate::proofs::Widths::words_tested), unfolding(crate::specs::Values::eval_base_answer))]
 pub fn eval_base(table: &[u32], point: &[u32]) -> Result<Element, Refusal>
     ensures { outcome result ≡ eval_base_answer table.now point.now }
 {
-    test_base(table, point)?;
-    Ok(weigh::value(table, point, point.len() / 4))
+    test_table::<1>(table, point)?;
+    Ok(weigh::value::<Words>(table, Point::of(point)))
 }
 
-// The value of a table of elements: a name of the Rust's, which C calls.
+// The value of a table of elements. Document 01 names an operation for each kind of table.
 #[tactic(auto, using(table::proofs::Outcomes::outcomes), unfolding(crate::specs::Values::eval_ext_answer))]
 pub fn eval_ext(table: &[u32], point: &[u32]) -> Result<Element, Refusal>
     ensures { outcome result ≡ eval_ext_answer table.now point.now }
 {
-    test_ext(table, point)?;
-    Ok(weigh::value_ext(table, point, point.len() / 4))
+    test_table::<4>(table, point)?;
+    Ok(weigh::value::<Elements>(table, Point::of(point)))
 }
 
 // The sum of next[y] table[y].
-#[tactic(auto, using(table::proofs::Outcomes::outcomes), unfolding(crate::specs::Values::eval_next_base_answer))]
+#[tactic(auto, using(crate::proofs::Widths::words_tested), unfolding(crate::specs::Values::eval_next_base_answer))]
 pub fn eval_next_base(table: &[u32], point: &[u32]) -> Result<Element, Refusal>
     ensures { outcome result ≡ eval_next_base_answer table.now point.now }
 {
-    test_base(table, point)?;
-    Ok(next_value(table, point, point.len() / 4))
+    test_table::<1>(table, point)?;
+    Ok(next_value(table, Point::of(point)))
 }
 
-// The tests of an evaluation: of a table of base words, which has an entry a word, and of a table of elements.
+// The tests of an evaluation; an entry of the table has WIDTH words.
 #[tactic(auto, using(table::proofs::Verdicts::tests))]
-fn test_base(table: &[u32], point: &[u32]) -> Result<(), Refusal>
-    ensures { answer result ≡ verdict (base_tests table.now point.now) }
+fn test_table<const WIDTH: usize>(table: &[u32], point: &[u32]) -> Result<(), Refusal>
+    requires { 0 < WIDTH }
+    ensures { answer result ≡ verdict (table_tests WIDTH table.now point.now) }
 {
+    table::refuse_if(table.len() % WIDTH != 0, Refusal::Split)?;
     table::refuse_if(table::splits(point), Refusal::Split)?;
-    test_value(table.len(), table, point)
-}
-
-#[tactic(auto, using(table::proofs::Verdicts::tests))]
-fn test_ext(table: &[u32], point: &[u32]) -> Result<(), Refusal>
-    ensures { answer result ≡ verdict (ext_tests table.now point.now) }
-{
-    table::refuse_if(table::splits(table), Refusal::Split)?;
-    table::refuse_if(table::splits(point), Refusal::Split)?;
-    test_value(table.len() / 4, table, point)
+    test_value(table.len() / WIDTH, table, point)
 }
 
 // The tests of an evaluation after 1; the table has `count` entries.
@@ -68,12 +63,12 @@ fn test_value(count: usize, table: &[u32], point: &[u32]) -> Result<(), Refusal>
 }
 
 // Each row's weight goes to the row after it; the last row has its own once more.
-fn next_value(table: &[u32], point: &[u32], n: usize) -> Element
-    requires { Coordinates n point.now × Whole n table.now }
+fn next_value(table: &[u32], point: Point) -> Element
+    requires { WholeTable 1 point.count table.now }
     ensures { Holds result
-        (next_value_at field (elements point.now 0 n) (λ y. base (get_or table.now y 0))) }
+        (next_value_at field (coordinates point.entry) (λ y. base (get_or table.now y 0))) }
 {
     let last = table.len() - 1;
-    let own = point::equality::at_row(point, n, last).mul_base(table[last]);
-    weigh::weigh(&table[1..], point, n, Element::one()).add(own)
+    let own = equality::at_row(point, last).mul_base(table[last]);
+    weigh::weigh(&table[1..], point, Element::one()).add(own)
 }

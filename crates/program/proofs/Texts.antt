@@ -1,13 +1,17 @@
 -- The lines that are printed: an element's, and a refusal's. Assumes nothing.
 use mathlib.Core.Path.{◌≡◌, refl, sym, ap, ◌∙◌}
 use mathlib.Core.Bool.{Bool, true, false, cond}
-use Prim.Native.Nat.{ℕ, zero, suc, ◌+◌, ◌-◌, ◌*◌, ◌^◌, ◌≤◌, ◌<◌}
+use Prim.Native.Nat.{ℕ, zero, suc, ◌+◌, ◌*◌, ◌/◌, ◌^◌, ◌≤◌, ◌<◌}
 use native.Mathlib.Omega.{arith}
 use mathlib.Core.List.{List, [], ◌∷◌, ◌++◌, append-nil, append_assoc}
-use lib.ListN.{length, take, drop, replicate, length-append, length-drop}
+use lib.ListN.{length, take, drop, length-append, length-drop}
 use lib.Pow.{pow_mono}
-use lib.Seq.{drop-drop, length-take-le}
+use lib.Seq.{length-take-le, take-take, take_at, drop_at}
+use Rattle.std.proofs.lemmas.List.{drop-take}
 use Rattle.frame.specs.Hex.{word_digits}
+use Rattle.table.specs.declared.Refusal.{Refusal}
+use Rattle.table.specs.declared.Refusal.TheVariants.{Split, NotPower, TooMany, Lengths, Unreduced, Constant, NoVertex, TooLong, Missing, Closed, Broken, NotFrame, Coordinates, NoPlace}
+use Rattle.table.specs.Refusals.{number}
 use Rattle.plan.specs.Plan.{places}
 use Rattle.frame.proofs.Grammar.{digits_length}
 use Rattle.runs.specs.declared.Reader.{Reader}
@@ -17,30 +21,9 @@ use Rattle.program.specs.Printed.{line_feed, out_line, out_lines}
 use Rattle.program.specs.Blocks.{most_text}
 use Rattle.program.specs.Inner.{done_text}
 
--- the digits of an element's words, in a room with a line feed behind them
-pub element_line : (out : List ℕ) (i : ℕ) {room digits line : List ℕ} → 4 * i + 4 ≤ length out → room ≡ replicate 33 line_feed
-    → digits ≡ word_digits (take (4 * i + 4 - 4 * i) (drop (4 * i) out)) → line ≡ digits ++ drop 32 room
-    → line ≡ out_line (take 4 (drop (4 * i) out))
-element_line out i h r d e =
-    let four : 4 * i + 4 - 4 * i ≡ 4 = omega arith in
-    rw (e, r, d, four) refl
-
--- the lines of n elements and of the next
-pub one_more_line : (n : ℕ) (ws : List ℕ) → out_lines n ws ++ out_line (take 4 (drop (4 * n) ws)) ≡ out_lines (suc n) ws
-unfolding out_lines
-one_more_line zero ws = sym (append-nil _)
-one_more_line (suc n) ws =
-    let q : 4 * suc n ≡ 4 + 4 * n = omega arith in
-    ap (λ k. out_line (take 4 ws) ++ out_lines n (drop 4 ws) ++ out_line (take 4 (drop k ws))) q
-    ∙ append_assoc (out_line (take 4 ws)) (out_lines n (drop 4 ws)) _
-    ∙ ap (λ us. out_line (take 4 ws) ++ (out_lines n (drop 4 ws) ++ out_line (take 4 us))) (sym (drop-drop (4 * n) 4 ws))
-    ∙ ap (λ t. out_line (take 4 ws) ++ t) (one_more_line n (drop 4 ws))
-
 -- an element's line has 33 bytes
-pub element_length : (out : List ℕ) (i : ℕ) → 4 * i + 4 ≤ length out → length (out_line (take 4 (drop (4 * i) out))) ≡ 33
-element_length out i h =
-    let four : length (take 4 (drop (4 * i) out)) ≡ 4 = length-take-le 4 (drop (4 * i) out) (omega (arith, length-drop (4 * i) out)) in
-    omega (arith, length-append (word_digits (take 4 (drop (4 * i) out))) (line_feed ∷ []), digits_length (take 4 (drop (4 * i) out)))
+element_length : (ws : List ℕ) → length ws ≡ 4 → length (out_line ws) ≡ 33
+element_length ws h = omega (arith, length-append (word_digits ws) (line_feed ∷ []), digits_length ws)
 
 -- and those of n elements 33 each
 pub lines_length : (n : ℕ) (out : List ℕ) → 4 * n ≤ length out → length (out_lines n out) ≡ 33 * n
@@ -48,27 +31,61 @@ unfolding out_lines
 lines_length zero out h = refl
 lines_length (suc n) out h =
     let rest = lines_length n (drop 4 out) (omega (arith, length-drop 4 out)) in
-    omega (arith, length-append (out_line (take 4 out)) (out_lines n (drop 4 out)), element_length out 0 (omega arith), rest)
+    let one = element_length (take 4 out) (length-take-le 4 out (omega arith)) in
+    omega (arith, length-append (out_line (take 4 out)) (out_lines n (drop 4 out)), rest, one)
 
--- one more
-pub line_more : (text ws : List ℕ) (n : ℕ) {now line new : List ℕ} → now ≡ text ++ out_lines n ws
-    → line ≡ out_line (take 4 (drop (4 * n) ws)) → new ≡ now ++ line → new ≡ text ++ out_lines (n + 1) ws
-line_more text ws n e l h =
-    let q : n + 1 ≡ suc n = omega arith in
-    rw (h, e, l, q, append_assoc, one_more_line n ws) refl
-
-pub no_lines : (text ws : List ℕ) → text ≡ text ++ out_lines 0 ws
+-- those of n elements are told by n elements
+front : (n : ℕ) (ws : List ℕ) → out_lines n (take (4 * n) ws) ≡ out_lines n ws
 unfolding out_lines
-no_lines text ws = sym (append-nil text)
+front zero ws = refl
+front (suc n) ws =
+    let q : 4 * suc n ≡ 4 + 4 * n = omega arith in
+    rw (q, take-take 4 (4 + 4 * n) ws (omega arith), drop-take 4 (4 * n) ws, front n (drop 4 ws)) refl
 
--- an element's line has room behind those before it
-pub line_fits : (text ws : List ℕ) (n all : ℕ) {now line : List ℕ} → n < all → 4 * all ≤ length ws → length text + 33 * all ≤ most_text
-    → now ≡ text ++ out_lines n ws → line ≡ out_line (take 4 (drop (4 * n) ws)) → length now + length line ≤ most_text
-line_fits text ws n all more there room e l =
-    let size = length-append text (out_lines n ws) in
-    let before = lines_length n ws (omega arith) in
-    let one = element_length ws n (omega arith) in
-    rw (e, l) (omega (arith, size, before, one))
+-- an element in front
+first : {ws : List ℕ} (element later : List ℕ) → ws ≡ element ++ later → length element ≡ 4
+    → out_lines (length ws / 4) ws ≡ out_line element ++ out_lines (length later / 4) later
+unfolding out_lines
+first {ws} element later e h =
+    let n : length (element ++ later) / 4 ≡ suc (length later / 4) = omega (arith, length-append element later) in
+    rw (e, n, take_at element later 4 h, drop_at element later 4 h) refl
+
+-- the lines that are there, and those of the elements that are left
+pub record Left (was out : List ℕ) (places : ℕ) (text rest : List ℕ) (size : ℕ) : Type 0 where
+  pub four : size ≡ 4
+  pub lines : text ++ out_lines (length rest / 4) rest ≡ was ++ out_lines places out
+
+module _ {was out : List ℕ} {places : ℕ} (there : 4 * places ≤ length out) where
+  pub none_yet : {rest : List ℕ} {size : ℕ} → rest ≡ take (4 * places) out → size ≡ 4 → Left was out places was rest size
+  none_yet {rest} e f =
+      let n : length (take (4 * places) out) ≡ 4 * places = length-take-le (4 * places) out there in
+      let q : 4 * places / 4 ≡ places = omega arith in
+      record { four = f; lines = rw (e, n, q, front places out) refl }
+
+  module _ {text rest : List ℕ} {size : ℕ} (l : Left was out places text rest size) (element later : List ℕ) {line : List ℕ}
+      (e : rest ≡ element ++ later) (h : length element ≡ size) (q : line ≡ out_line element) where
+    -- an element's line has room behind those before it
+    pub line_fits : length was + 33 * places ≤ most_text → length text + length line ≤ most_text
+    line_fits room =
+        let all : length text + length (out_lines (length rest / 4) rest) ≡ length was + length (out_lines places out) =
+        simp length-append at (ap length l.lines) in
+        let some : 4 * (length rest / 4) ≤ length rest = omega arith in
+        let n : 4 ≤ length rest = omega (arith, ap length e, length-append element later, h, l.four) in
+        omega (arith, ap length q, element_length element (h ∙ l.four), all, lines_length _ rest some, lines_length places out there)
+
+    -- one more
+    pub line_more : {new : List ℕ} {still : ℕ} → new ≡ text ++ line → still ≡ size → Left was out places new later still
+    line_more n k =
+        record {
+          four = k ∙ l.four;
+          lines = rw (n, q, append_assoc, sym (first element later e (h ∙ l.four))) l.lines;
+        }
+
+  pub all_there : {text rest : List ℕ} {size : ℕ} → Left was out places text rest size → length rest < size → text ≡ was ++ out_lines places out
+  unfolding out_lines
+  all_there {text} {rest} l h =
+      let n : length rest / 4 ≡ 0 = omega (arith, l.four) in
+      sym (append-nil text) ∙ ap (λ k. text ++ out_lines k rest) (sym n) ∙ l.lines
 
 -- after a line: at `04` the lines of out, else nothing
 module _ {r : Reader} {out : List ℕ} (ready : Ready r out) where
@@ -87,3 +104,20 @@ module _ {r : Reader} {out : List ℕ} (ready : Ready r out) where
   done_fits e text h =
       let h' : length text + length (out_lines (places r.session.plan) out) ≤ most_text = rw e at h in
       omega (arith, lines_length (places r.session.plan) out places_fit)
+
+-- a refusal's number fits a byte
+pub number_small : (r : Refusal) → number r < 256
+number_small Split = omega arith
+number_small NotPower = omega arith
+number_small TooMany = omega arith
+number_small Lengths = omega arith
+number_small Unreduced = omega arith
+number_small Constant = omega arith
+number_small NoVertex = omega arith
+number_small TooLong = omega arith
+number_small Missing = omega arith
+number_small Closed = omega arith
+number_small Broken = omega arith
+number_small NotFrame = omega arith
+number_small Coordinates = omega arith
+number_small NoPlace = omega arith

@@ -22,7 +22,8 @@ const OUT_WORDS: usize = 4096;
 // The most text of a block: the lines of 2^10 elements, and a refusal's.
 pub const MOST_TEXT: usize = 33797;
 
-// What the lines so far left, the sums, the bytes of the line that has not ended, whether a line was refused, and the text to print.
+// What the lines so far left, the sums, the bytes of the line that has not ended, whether no more are read, and the text to print.
+// `stopped` is a bool: a refused line and the end of the input alike set it, and the other fields stay as they are between the blocks.
 #[derive(Drop)]
 pub struct Program {
     reader: Reader,
@@ -64,6 +65,7 @@ impl Program {
     {
         self.clear_text();
         let mut rest = block;
+        // No plainer otherwise: of each part that `split_inclusive` gives it would be asked again whether a line feed ends it.
         while !self.is_stopped() {
             let Some(end) = text::find_line_feed(rest) else {
                 self.hold(rest);

@@ -32,7 +32,7 @@ pub fn put_out(reader: &Reader, out: &[u32], text: &mut Buffer<MOST_TEXT>)
     if !reader.phase.is_done() {
         return;
     }
-    let places = table::rows(reader.session.plan.n - reader.session.plan.k);
+    let places = reader.session.plan.places();
     put_elements(out, places, text);
 }
 
@@ -42,20 +42,11 @@ fn put_elements(out: &[u32], places: usize, text: &mut Buffer<MOST_TEXT>)
     requires room { length text.old + 33 * places ≤ most_text }
     ensures { text.new ≡ text.old ++ out_lines places out.now }
 {
-    // By number: out may have more elements than there are places.
-    for i in 0..places {
-        text.extend(&element_line(out, i));
+    for element in out[..4 * places].chunks_exact(4) {
+        let mut line = line_room();
+        frame::digits(element, &mut line[..32]);
+        text.extend(&line);
     }
-}
-
-// The line of element i.
-fn element_line(out: &[u32], i: usize) -> [u8; LINE_BYTES]
-    requires { 4 * i + 4 ≤ length out.now }
-    ensures { result ≡ out_line (take 4 (drop (4 * i) out.now)) }
-{
-    let mut line = line_room();
-    frame::digits(&out[4 * i..4 * i + 4], &mut line[..32]);
-    line
 }
 
 // Room for an element's digits, and a line feed behind them. In a function of its own, or the literal stands in each goal.
@@ -71,6 +62,13 @@ pub fn put_refusal(refusal: Refusal, text: &mut Buffer<MOST_TEXT>)
     ensures { text.new ≡ text.old ++ refusal_line (number refusal) }
 {
     let mut line = *b"ff00\n";
-    frame::put_byte(&mut line, 2, refusal.number());
+    frame::put_byte(&mut line, 2, byte_of(refusal));
     text.extend(&line);
+}
+
+// Its number, which fits a byte.
+fn byte_of(refusal: Refusal) -> u8
+    ensures { result ≡ number refusal }
+{
+    refusal.number() as u8
 }

@@ -7,15 +7,12 @@
 // the first slice is it before the call.
 #![tactic(auto)]
 
-use calls::{Given, Operation};
+use calls::{Given, Operation, UnknownOperation};
 use std::alloc::{AllocError, Global};
 use std::io;
 
 // What out and work hold before a call.
 const BEFORE: u32 = 7;
-
-// The answer to a record that is none.
-const NO_OPERATION: u32 = 255;
 
 fn main(rt: HostRuntime) -> io::Result<()> {
     let alloc = rt.alloc();
@@ -54,33 +51,31 @@ fn is_same(alloc: Global, record: &[u32]) -> Result<bool, AllocError> {
         c: &[],
         number: *number,
     };
-    Ok(call(*operation, given, &mut out) == *answer && out.as_slice() == expected)
+    Ok(call(*operation, given, &mut out) == Some(*answer) && out.as_slice() == expected)
 }
 
-// The operation of this number on what is given.
-fn call(number: u32, given: Given, out: &mut [u32]) -> u32 {
+// The answer of the operation of this number to what is given, where there is such a call.
+fn call(number: u32, given: Given, out: &mut [u32]) -> Option<u32> {
     match Operation::try_from(number) {
-        Err(_) => NO_OPERATION,
-        Ok(operation) if operation.has_work() => with_work(operation, given, out),
-        Ok(operation) => calls::call(operation, given, &mut [], out),
+        Err(UnknownOperation(_)) => None,
+        Ok(operation) => match operation {
+            Operation::OnPoints(_) => Some(calls::call(operation, given, &mut [], out)),
+            Operation::OnSplit(_) | Operation::OnTable(_) => with_work(operation, given, out),
+        },
     }
 }
 
 // The call with work at the front of out, and b as two slices.
-fn with_work(operation: Operation, given: Given, out: &mut [u32]) -> u32 {
+fn with_work(operation: Operation, given: Given, out: &mut [u32]) -> Option<u32> {
     let first = (given.number % 65536) as usize;
     let lent = (given.number / 65536) as usize;
-    let Some((b, c)) = given.b.split_at_checked(first) else {
-        return NO_OPERATION;
-    };
-    let Some((work, out)) = out.split_at_mut_checked(lent) else {
-        return NO_OPERATION;
-    };
-    if operation.is_fixing() {
+    let (b, c) = given.b.split_at_checked(first)?;
+    let (work, out) = out.split_at_mut_checked(lent)?;
+    if let Operation::OnTable(_) = operation {
         if work.len() != b.len() {
-            return NO_OPERATION;
+            return None;
         }
         work.copy_from_slice(b);
     }
-    calls::call(operation, Given { b, c, ..given }, work, out)
+    Some(calls::call(operation, Given { b, c, ..given }, work, out))
 }

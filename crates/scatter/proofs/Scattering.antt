@@ -5,7 +5,7 @@ use Prim.Native.Nat.{ℕ, suc, min, ◌+◌, ◌-◌, ◌*◌, ◌^◌, ◌≤�
 use native.Mathlib.Nat.{add-mul, pos_of_ne-zero, two-pow-succ}
 use native.Mathlib.Omega.{arith}
 use mathlib.Core.List.{List, [], ◌∷◌}
-use lib.ListN.{length, get_or, take}
+use lib.ListN.{length, get_or, take, drop}
 use lib.Seq.{length-take-le}
 use Rattle.algebra.specs.Ring.{minus}
 use Rattle.algebra.specs.Words.{unreduced}
@@ -18,15 +18,16 @@ use Rattle.multilinear.proofs.Weighed.{fold_step, fold_one, prefix_ext}
 use Rattle.field.specs.Field.{p, p_pos, Ext, field, base, from_words, Reduced, Holds}
 use Rattle.field.specs.declared.Element.{Element}
 use Rattle.field.proofs.Laws.{field_ring, base_zero, read_as}
-use Rattle.table.specs.Table.{element_at, elements, entries, point_of, placed}
+use Rattle.table.specs.Table.{element_at, elements, entries, placed}
 use Rattle.table.specs.Gained.{Gained}
 use Rattle.table.specs.Refusals.{most}
 use Rattle.table.proofs.Laws.{elements_length}
 use Rattle.table.proofs.Gaining.{nothing, gained_as, added, widened}
-use Rattle.table.proofs.Parts.{after, after_is, after_length, after_below, elements_drop}
+use Rattle.table.proofs.Parts.{after, after_length, after_below, elements_drop}
 use Rattle.table.proofs.Placed.{absent, left_over, placed_before, placed_word, placed_after, placed_none, placed_zero, placed_low, placed_high}
 use Rattle.table.proofs.Tests.{reduced_at}
-use Rattle.point.specs.Coordinates.{Coordinates}
+use Rattle.point.specs.declared.Point.{Point}
+use Rattle.point.specs.Points.{coordinates}
 use Rattle.kernel.specs.Kernel.{Groups, rows_at}
 use Rattle.scatter.specs.Scatter.{Scatters, Scattered, whole_rows}
 use Rattle.scatter.proofs.WholeRows.{one_row_lem}
@@ -40,22 +41,19 @@ row_gained from words weight d r fits =
     (λ y h. absent weight (placed_before from words y h)) (λ y h. absent weight (placed_after from words y h))
 
 -- the coordinates after the first
-module _ (ws : List ℕ) where
-  abbrev pub others : List ℕ
-  others = after 4 ws
+module _ (rest others : Point) (words_are : others.words.now ≡ drop (4 * 1) rest.words.now) (left : others.count ≡ rest.count - 1)
+    (some : rest.count ≡ 0 → ⊥) where
+  one_more : rest.count ≡ suc others.count
+  one_more = let z : 0 < rest.count = pos_of_ne-zero some in omega arith
 
-  others_from : (a m : ℕ) → elements others a m ≡ elements ws (1 + a) m
-  others_from a m = ap (λ l. elements l a m) (after_is 4 ws) ∙ elements_drop 1 a m ws
+  first_and_others : coordinates rest ≡ element_at rest.words.now 0 ∷ coordinates others
+  unfolding elements
+  first_and_others =
+      ap (elements rest.words.now 0) one_more
+      ∙ ap (λ zs. element_at rest.words.now 0 ∷ zs)
+      (sym (ap (λ l. elements l 0 others.count) words_are ∙ elements_drop 1 0 others.count rest.words.now))
 
-  module _ (some : entries ws ≡ 0 → ⊥) where
-    pub one_more : suc (entries others) ≡ entries ws
-    one_more = let z : 0 < entries ws = pos_of_ne-zero some in omega (arith, after_length 4 ws)
-
-    coordinates : point_of ws ≡ element_at ws 0 ∷ point_of others
-    unfolding elements
-    coordinates = ap (elements ws 0) (sym one_more) ∙ ap (λ zs. element_at ws 0 ∷ zs) (sym (others_from 0 (entries others)))
-
-module _ {from : ℕ} {rest words out : List ℕ} {weight : Element} (s : Scatters from rest weight words out) where
+module _ {from : ℕ} {rest : Point} {words out : List ℕ} {weight : Element} (s : Scatters from rest weight words out) where
   abbrev inner : ℕ
   inner = entries out
 
@@ -63,12 +61,12 @@ module _ {from : ℕ} {rest words out : List ℕ} {weight : Element} (s : Scatte
   no_words e =
       gained_as _ (nothing 0 inner out (λ y h. reduced_at out s.out_below (0 + y)))
       (λ y h. sym
-      (fold_ext field_ring Prefix Plain inner (point_of rest) (from_words weight) _ (λ t. field.zero)
+      (fold_ext field_ring Prefix Plain inner (coordinates rest) (from_words weight) _ (λ t. field.zero)
       (λ t. ap base (placed_none from words e t) ∙ base_zero) y
-      ∙ fold_none field_ring Prefix Plain inner (point_of rest) (from_words weight) y))
+      ∙ fold_none field_ring Prefix Plain inner (coordinates rest) (from_words weight) y))
 
   -- no coordinate is left: one row
-  module _ (none : entries rest ≡ 0) where
+  module _ (none : rest.count ≡ 0) where
     one_row : from + length words ≤ inner
     one_row = let q : 2 ^ 0 * inner ≡ inner = omega arith in rw (none, q) at s.within
 
@@ -83,7 +81,7 @@ module _ {from : ℕ} {rest words out : List ℕ} {weight : Element} (s : Scatte
         (λ y h. rw none (sym (fold_one field_ring inner (from_words weight) (λ t. base (placed from words t)) y)))
 
   -- 2^n whole rows
-  module _ (n : ℕ) (left : entries rest ≡ n) (all : length words ≡ 2 ^ n * inner) where
+  module _ (n : ℕ) (left : rest.count ≡ n) (all : length words ≡ 2 ^ n * inner) where
     pub rows_fit : Groups (2 ^ n) 0 inner out words
     rows_fit = record { room = omega (arith, s.room); there = omega (arith, all); words_below = s.below }
 
@@ -91,43 +89,35 @@ module _ {from : ℕ} {rest words out : List ℕ} {weight : Element} (s : Scatte
     at_first = let w : from + length words ≤ 2 ^ n * inner = rw left at s.within in omega (arith, all)
 
     pub rows_scattered : {g : ℕ → Ext} {w : List ℕ} → Gained 0 inner g out w
-        → ((y : ℕ) → y < inner → g y ≡ whole_rows n rest weight inner words y) → Scattered from rest weight words out w
+        → ((y : ℕ) → y < inner → g y ≡ whole_rows rest weight inner words y) → Scattered from rest weight words out w
     rows_scattered d same =
-        rw (left, at_first)
+        rw at_first
         (gained_as _ d (λ y h.
-        same y h ∙ sym (fold_ext field_ring Prefix Plain inner (elements rest 0 n) (from_words weight) _ _ (λ t. ap base (placed_zero words t)) y)))
+        same y h ∙ sym (fold_ext field_ring Prefix Plain inner (coordinates rest) (from_words weight) _ _ (λ t. ap base (placed_zero words t)) y)))
 
   -- the two halves of the rows, the first `cut` words in the low half, where they stand from word `start` on
-  module _ (some : entries rest ≡ 0 → ⊥) where
-    left : entries (others rest) ≡ entries rest - 1
-    left = omega (arith, one_more rest some)
-
-    pub twice : 2 ^ entries rest * inner ≡ 2 ^ entries (others rest) * inner + 2 ^ entries (others rest) * inner
+  module _ (some : rest.count ≡ 0 → ⊥) where
+    twice : 2 ^ rest.count * inner ≡ 2 ^ (rest.count - 1) * inner + 2 ^ (rest.count - 1) * inner
     twice =
-        ap (λ n. 2 ^ n * inner) (sym (one_more rest some)) ∙ ap (λ n. n * inner) (two-pow-succ (entries (others rest)))
-        ∙ add-mul (2 ^ entries (others rest)) (2 ^ entries (others rest)) inner
+        let z : 0 < rest.count = pos_of_ne-zero some in
+        let q : rest.count ≡ suc (rest.count - 1) = omega arith in
+        ap (λ n. 2 ^ n * inner) q ∙ ap (λ n. n * inner) (two-pow-succ (rest.count - 1))
+        ∙ add-mul (2 ^ (rest.count - 1)) (2 ^ (rest.count - 1)) inner
 
-    pub half_fits : {rows : ℕ} → rows ≡ 2 ^ (entries rest - 1) → rows * inner ≤ 2 ^ most
-    half_fits e = rw (e, sym left) (omega (arith, twice, s.small))
+    pub half_fits : {rows : ℕ} → rows ≡ 2 ^ (rest.count - 1) → rows * inner ≤ 2 ^ most
+    half_fits e = rw e (omega (arith, twice, s.small))
 
-    fewer : Coordinates (entries (others rest)) (others rest)
-    fewer =
-        record {
-          few = omega (arith, left, s.rest_is.few);
-          count = omega arith;
-          below = after_below 4 rest s.rest_is.below;
-        }
-
-    abbrev zs : List Ext
-    zs = point_of (others rest)
-
-    module _ (rows : ℕ) (r : rows ≡ 2 ^ (entries rest - 1)) (start cut : ℕ) (b : start ≡ min from (rows * inner))
-        (c : cut ≡ min (length words) (rows * inner - start)) where
+    module _ (rows : ℕ) (r : rows ≡ 2 ^ (rest.count - 1)) (start cut : ℕ) (b : start ≡ min from (rows * inner))
+        (c : cut ≡ min (length words) (rows * inner - start)) (others : Point) (words_are : others.words.now ≡ drop (4 * 1) rest.words.now)
+        (left : others.count ≡ rest.count - 1) where
       abbrev half : ℕ
       half = rows * inner
 
-      e : half ≡ 2 ^ entries (others rest) * inner
+      e : half ≡ 2 ^ others.count * inner
       e = ap (λ n. n * inner) r ∙ ap (λ n. 2 ^ n * inner) (sym left)
+
+      all : 2 ^ rest.count * inner ≡ half + half
+      all = rw r twice
 
       b' : start ≡ from - (from - half)
       b' = omega (arith, b)
@@ -138,13 +128,12 @@ module _ {from : ℕ} {rest words out : List ℕ} {weight : Element} (s : Scatte
       cut_there : cut ≤ length words
       cut_there = omega (arith, c)
 
-      pub low_scatters : {low : Element} → Reduced low → Scatters start (others rest) low (take cut words) out
+      pub low_scatters : {low : Element} → Reduced low → Scatters start others low (take cut words) out
       low_scatters reduced =
           let l : length (take cut words) ≡ cut = length-take-le cut words cut_there in
           record {
-            rest_is = fewer;
             weight_is = reduced;
-            small = omega (arith, twice, s.small);
+            small = omega (arith, all, e, s.small);
             within = omega (arith, e, l, b, c);
             below = unreduced_take p p_pos cut words s.below;
             room = s.room;
@@ -152,38 +141,41 @@ module _ {from : ℕ} {rest words out : List ℕ} {weight : Element} (s : Scatte
           }
 
       pub high_scatters : {high : Element} {g : ℕ → Ext} {w : List ℕ} → Reduced high → Gained 0 inner g out w
-          → Scatters (from - start) (others rest) high (after cut words) w
+          → Scatters (from - start) others high (after cut words) w
       high_scatters reduced d =
-          let o : from + length words ≤ start + cut + half = omega (arith, e, b, c, twice, s.within) in
+          let o : from + length words ≤ start + cut + half = omega (arith, b, c, all, s.within) in
           let l = left_over from (length words) start cut (omega (arith, b)) cut_there o in
           record {
-            rest_is = fewer;
             weight_is = reduced;
-            small = rw d.len (omega (arith, twice, s.small));
+            small = rw d.len (omega (arith, all, e, s.small));
             within = rw (after_length cut words, d.len, sym e) l;
             below = after_below cut words s.below;
             room = rw d.len s.room;
             out_below = d.below s.out_below;
           }
 
-      both_halves : {z high low : Element} → Holds z (element_at rest 0) → Holds high (field.mul (from_words weight) (from_words z))
-          → Holds low (minus field (from_words weight) (from_words high)) → (y : ℕ) → y < inner
+      abbrev zs : List Ext
+      zs = coordinates others
+
+      both_halves : {z high low : Element} → Holds z (element_at rest.words.now 0)
+          → Holds high (field.mul (from_words weight) (from_words z)) → Holds low (minus field (from_words weight) (from_words high))
+          → (y : ℕ) → y < inner
           → field.add (fold_at field Prefix Plain inner zs (from_words low) (λ t. base (placed start (take cut words) t)) y)
           (fold_at field Prefix Plain inner zs (from_words high) (λ t. base (placed (from - start) (after cut words) t)) y)
-          ≡ fold_at field Prefix Plain inner (point_of rest) (from_words weight) (λ t. base (placed from words t)) y
+          ≡ fold_at field Prefix Plain inner (coordinates rest) (from_words weight) (λ t. base (placed from words t)) y
       both_halves hz hh hl y h =
           let f : ℕ → Ext = λ t. base (placed from words t) in
-          let q : half ≡ 2 ^ length zs * inner = e ∙ ap (λ n. 2 ^ n * inner) (sym (elements_length (others rest) 0 (entries (others rest)))) in
+          let q : half ≡ 2 ^ length zs * inner = e ∙ ap (λ n. 2 ^ n * inner) (sym (elements_length others.words.now 0 others.count)) in
           rw (read_as _ hl, read_as _ hh, read_as _ hz)
           (ap₂ field.add
           (prefix_ext field_ring inner zs _ _ f (λ t u. ap base (placed_low half from words start cut b' c' t (rw q u))) y h)
           (prefix_ext field_ring inner zs _ _ (λ t. f (2 ^ length zs * inner + t))
           (λ t u. ap base (placed_high half from words start cut b' c' t ∙ ap (λ n. placed from words (n + t)) q)) y h)
-          ∙ sym (fold_step field_ring inner (element_at rest 0) zs (from_words weight) f y)
-          ∙ ap (λ us. fold_at field Prefix Plain inner us (from_words weight) f y) (sym (coordinates rest some)))
+          ∙ sym (fold_step field_ring inner (element_at rest.words.now 0) zs (from_words weight) f y)
+          ∙ ap (λ us. fold_at field Prefix Plain inner us (from_words weight) f y) (sym (first_and_others rest others words_are left some)))
 
-      pub halves_joined : {z high low : Element} {w w' : List ℕ} → Holds z (element_at rest 0)
+      pub halves_joined : {z high low : Element} {w w' : List ℕ} → Holds z (element_at rest.words.now 0)
           → Holds high (field.mul (from_words weight) (from_words z)) → Holds low (minus field (from_words weight) (from_words high))
-          → Scattered start (others rest) low (take cut words) out w
-          → Scattered (from - start) (others rest) high (after cut words) w w' → Scattered from rest weight words out w'
+          → Scattered start others low (take cut words) out w → Scattered (from - start) others high (after cut words) w w'
+          → Scattered from rest weight words out w'
       halves_joined hz hh hl d0 d1 = gained_as _ (added d0 (rw d0.len at d1)) (both_halves hz hh hl)

@@ -25,6 +25,8 @@ use Rattle.table.proofs.Laws.{table_at}
 use Rattle.table.proofs.Gaining.{nothing, gained_as, added}
 use Rattle.table.proofs.Parts.{after, after_word}
 use Rattle.table.proofs.Tests.{reduced_at}
+use Rattle.point.specs.declared.Point.{Point}
+use Rattle.point.specs.Points.{coordinates}
 use Rattle.kernel.specs.Kernel.{weighed, rows_at}
 use Rattle.scatter.specs.Scatter.{whole_rows, row_term}
 
@@ -82,21 +84,31 @@ one_row_lem weight n words y =
     let q : 0 * n + y ≡ y = omega arith in
     one_sum weight weight _ ∙ ap (λ t. field.mul (from_words weight) (base (get_or words t 0))) q
 
+-- whole rows of n coordinates
+module _ (n : ℕ) (rest : Point) (left : rest.count ≡ n) (weight : Element) (inner : ℕ) (words : List ℕ) where
+  abbrev rows_of : ℕ → Ext
+  rows_of i = fold_at field Prefix Plain inner (elements rest.words.now 0 n) (from_words weight) (λ t. base (get_or words t 0)) i
+
+  counted : (i : ℕ) → rows_of i ≡ whole_rows rest weight inner words i
+  counted i =
+      ap (λ m. fold_at field Prefix Plain inner (elements rest.words.now 0 m) (from_words weight) (λ t. base (get_or words t 0)) i)
+      (sym left)
+
 -- the weights of the rows
-module _ (weight : Element) (rest words : List ℕ) (inner : ℕ) {z0 high low : Element} (hz0 : Holds z0 (element_at rest 0))
-    (hh : Holds high (field.mul (from_words weight) (from_words z0)))
+module _ (weight : Element) (rest : Point) (words : List ℕ) (inner : ℕ) {z0 high low : Element}
+    (hz0 : Holds z0 (element_at rest.words.now 0)) (hh : Holds high (field.mul (from_words weight) (from_words z0)))
     (hl : Holds low (minus field (from_words weight) (from_words high))) where
   two_lem : (y : ℕ) → field.add (field.mul (from_words low) (base (get_or words (0 * inner + y) 0)))
       (field.mul (from_words high) (base (get_or words (1 * inner + y) 0)))
-      ≡ whole_rows 1 rest weight inner words y
+      ≡ fold_at field Prefix Plain inner (elements rest.words.now 0 1) (from_words weight) (λ t. base (get_or words t 0)) y
   unfolding elements
   two_lem y = rw (read_as _ hl, read_as _ hh, read_as _ hz0) (sym (two inner _ _ (λ t. base (get_or words t 0)) y))
 
-  pub two_rows_lem : (y : ℕ) → rows_at 2 (low ∷ high ∷ []) inner words y ≡ whole_rows 1 rest weight inner words y
-  two_rows_lem y = two_sum low high _ ∙ two_lem y
+  pub two_rows_lem : rest.count ≡ 1 → (y : ℕ) → rows_at 2 (low ∷ high ∷ []) inner words y ≡ whole_rows rest weight inner words y
+  two_rows_lem e y = two_sum low high _ ∙ two_lem y ∙ counted 1 rest e weight inner words y
 
-  module _ {z1 w1 w3 w0 w2 : Element} (hz1 : Holds z1 (element_at rest 1)) (h1 : Holds w1 (field.mul (from_words low) (from_words z1)))
-      (h3 : Holds w3 (field.mul (from_words high) (from_words z1))) (h0 : Holds w0 (minus field (from_words low) (from_words w1)))
+  module _ {z1 w1 w3 w0 w2 : Element} (hz1 : Holds z1 (element_at rest.words.now 1))
+      (h1 : Holds w1 (field.mul (from_words low) (from_words z1))) (h3 : Holds w3 (field.mul (from_words high) (from_words z1))) (h0 : Holds w0 (minus field (from_words low) (from_words w1)))
       (h2 : Holds w2 (minus field (from_words high) (from_words w3))) where
     four_lem : (y : ℕ) → field.add
         (field.add
@@ -104,14 +116,15 @@ module _ (weight : Element) (rest words : List ℕ) (inner : ℕ) {z0 high low :
         (field.mul (from_words w1) (base (get_or words (1 * inner + y) 0))))
         (field.mul (from_words w2) (base (get_or words (2 * inner + y) 0))))
         (field.mul (from_words w3) (base (get_or words (3 * inner + y) 0)))
-        ≡ whole_rows 2 rest weight inner words y
+        ≡ fold_at field Prefix Plain inner (elements rest.words.now 0 2) (from_words weight) (λ t. base (get_or words t 0)) y
     unfolding elements
     four_lem y =
         rw (read_as _ h0, read_as _ h2, read_as _ h1, read_as _ h3, read_as _ hl, read_as _ hh, read_as _ hz0, read_as _ hz1)
         (sym (four inner _ _ _ (λ t. base (get_or words t 0)) y))
 
-    pub four_rows_lem : (y : ℕ) → rows_at 4 (w0 ∷ w1 ∷ w2 ∷ w3 ∷ []) inner words y ≡ whole_rows 2 rest weight inner words y
-    four_rows_lem y = four_sum w0 w1 _ w2 w3 ∙ four_lem y
+    pub four_rows_lem : rest.count ≡ 2 → (y : ℕ)
+        → rows_at 4 (w0 ∷ w1 ∷ w2 ∷ w3 ∷ []) inner words y ≡ whole_rows rest weight inner words y
+    four_rows_lem e y = four_sum w0 w1 _ w2 w3 ∙ four_lem y ∙ counted 2 rest e weight inner words y
 
 -- four of thirty-two rows are there from row 4 j on
 pub four_within : (inner j n : ℕ) → j < 8 → 32 * inner ≤ n → 4 * j * inner + 4 * inner ≤ n
@@ -155,11 +168,13 @@ module _ (weights words : List ℕ) (inner : ℕ) where
         ∙ sym (sum_split field_ring 4 (4 * j) (term i)) ∙ ap (λ n. sum_to field n (term i)) q)
 
   -- all thirty-two rows, by the table of weight·eq of five coordinates
-  pub all_rows : (weight : Element) (rest : List ℕ) {ws w : List ℕ}
-      → weights ≡ table_words 32 (λ y. field.mul (from_words weight) (eq_at field (elements rest 0 5) y))
-      → Gained 0 inner (λ i. sum_to field 32 (term i)) ws w → Gained 0 inner (whole_rows 5 rest weight inner words) ws w
+  pub all_rows : (weight : Element) (rest : Point) {ws w : List ℕ} → rest.count ≡ 5
+      → weights ≡ table_words (2 ^ rest.count) (λ y. field.mul (from_words weight) (eq_at field (coordinates rest) y))
+      → Gained 0 inner (λ i. sum_to field 32 (term i)) ws w → Gained 0 inner (whole_rows rest weight inner words) ws w
   unfolding fold_at row_term elements
-  all_rows weight rest table d =
+  all_rows weight rest five t d =
+      let table = rw five at t in
       gained_as _ d (λ i h.
       sum_ext field_ring 32 _ _ (λ y b.
-      ap (λ e. field.mul e (base (get_or words (y * inner + i) 0))) (ap (λ ws. element_at ws y) table ∙ table_at 32 _ y b)))
+      ap (λ e. field.mul e (base (get_or words (y * inner + i) 0))) (ap (λ ws. element_at ws y) table ∙ table_at 32 _ y b))
+      ∙ counted 5 rest five weight inner words i)

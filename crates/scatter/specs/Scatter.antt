@@ -6,32 +6,33 @@ use Rattle.multilinear.specs.declared.Weight.TheVariants.{Plain}
 use Rattle.multilinear.specs.Folds.{fold_at}
 use Rattle.field.specs.Field.{p, Ext, field, base, from_words, Reduced}
 use Rattle.field.specs.declared.Element.{Element}
-use Rattle.table.specs.Table.{element_at, elements, entries, point_of, placed}
+use Rattle.table.specs.Table.{element_at, entries, placed}
 use Rattle.table.specs.Gained.{Gained}
 use Rattle.table.specs.Refusals.{most}
-use Rattle.point.specs.Coordinates.{Coordinates}
+use Rattle.point.specs.declared.Point.{Point}
+use Rattle.point.specs.Points.{coordinates}
 use Rattle.kernel.specs.Kernel.{Groups}
 
 -- words from word `from` on of rows of as many words as out has elements, the coordinates that are left, and a weight
-pub record Scatters (from : ℕ) (rest : List ℕ) (weight : Element) (words out : List ℕ) : Type 0 where
-  pub rest_is : Coordinates (entries rest) rest
+pub record Scatters (from : ℕ) (rest : Point) (weight : Element) (words out : List ℕ) : Type 0 where
   pub weight_is : Reduced weight
-  pub small : 2 ^ entries rest * entries out ≤ 2 ^ most
-  pub within : from + length words ≤ 2 ^ entries rest * entries out
+  pub small : 2 ^ rest.count * entries out ≤ 2 ^ most
+  pub within : from + length words ≤ 2 ^ rest.count * entries out
   pub below : unreduced p words ≡ false
   pub room : length out ≡ 4 * entries out
   pub out_below : unreduced p out ≡ false
 
 -- out gains, at each place, the words of its rows by weight·eq of the coordinates that are left
-abbrev pub Scattered : ℕ → List ℕ → Element → List ℕ → List ℕ → List ℕ → Type 0
+abbrev pub Scattered : ℕ → Point → Element → List ℕ → List ℕ → List ℕ → Type 0
 Scattered from rest weight words out w =
     Gained 0 (entries out)
-    (fold_at field Prefix Plain (entries out) (point_of rest) (from_words weight) (λ t. base (placed from words t)))
+    (fold_at field Prefix Plain (entries out) (coordinates rest) (from_words weight) (λ t. base (placed from words t)))
     out w
 
--- what place i gains of 2^n whole rows
-abbrev pub whole_rows : ℕ → List ℕ → Element → ℕ → List ℕ → ℕ → Ext
-whole_rows n rest weight inner words i = fold_at field Prefix Plain inner (elements rest 0 n) (from_words weight) (λ t. base (get_or words t 0)) i
+-- what place i gains of whole rows
+abbrev pub whole_rows : Point → Element → ℕ → List ℕ → ℕ → Ext
+whole_rows rest weight inner words i =
+    fold_at field Prefix Plain inner (coordinates rest) (from_words weight) (λ t. base (get_or words t 0)) i
 
 -- a table of the weights of a block of thirty-two rows and the rows' words, all reduced, and an element of out for each word of a row
 pub record Weighs (weights words out : List ℕ) : Type 0 where

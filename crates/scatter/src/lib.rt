@@ -7,12 +7,15 @@ ghost use Rattle.algebra.specs.Words.{unreduced};
 ghost use Rattle.field.specs.Field.{p, field, Reduced};
 ghost use Rattle.table.specs.Table.{entries};
 ghost use Rattle.table.specs.Gained.{Gained};
-ghost use Rattle.point.specs.Coordinates.{Coordinates};
 ghost use Rattle.kernel.specs.Kernel.{Groups};
 ghost use Rattle.scatter.specs.Scatter.{Scatters, Scattered, whole_rows, Weighs, row_term};
 
 use field::Element;
+use point::Point;
 use point::equality::BitOrder;
+
+// The words of the weights of a block: four for each of its thirty-two rows.
+const BLOCK_WORDS: usize = 128;
 
 // The words stand in rows of as many words as out has elements, from word `at` on. The rows' weights, `weight` times eq of the
 // coordinates that are left, come from it coordinate by coordinate:
@@ -20,11 +23,11 @@ use point::equality::BitOrder;
 //     weight  ->  weight (1 - z) for the rows of the low half, weight z for those of the high half
 //
 // and whole rows of the last five coordinates go thirty-two at a time, a block, by a table of their weights.
-pub fn scatter(words: &[u32], at: usize, rest: &[u32], weight: Element, out: &mut [u32])
-    requires { Scatters at rest.now weight words.now out.old }
-    ensures { Scattered at rest.now weight words.now out.old out.new }
+pub fn scatter(words: &[u32], at: usize, rest: Point, weight: Element, out: &mut [u32])
+    requires { Scatters at rest weight words.now out.old }
+    ensures { Scattered at rest.entry weight words.now out.old out.new }
 {
-    let left = rest.len() / 4;
+    let left = rest.count;
     let inner = out.len() / 4;
     if words.len() == 0 {
         return;
@@ -41,7 +44,7 @@ pub fn scatter(words: &[u32], at: usize, rest: &[u32], weight: Element, out: &mu
         block_rows(words, rest, weight, out);
         return;
     }
-    let high = weight.mul(table::read(rest, 0));
+    let high = weight.mul(rest.read(0));
     let low = weight.sub(high);
     if left == 1 && words.len() == 2 * inner {
         kernel::gain_rows(out, 0, words, inner, [low, high]);
@@ -50,20 +53,21 @@ pub fn scatter(words: &[u32], at: usize, rest: &[u32], weight: Element, out: &mu
     let half = table::rows(left - 1) * inner;
     let at0 = usize::min(at, half);
     let cut = usize::min(words.len(), half - at0);
-    scatter(&words[..cut], at0, &rest[4..], low, out);
-    scatter(&words[cut..], at - at0, &rest[4..], high, out);
+    let others = rest.after(1);
+    scatter(&words[..cut], at0, others, low, out);
+    scatter(&words[cut..], at - at0, others, high, out);
 }
 
 // Four whole rows, with one reduction a place and coordinate.
-fn four_rows(words: &[u32], rest: &[u32], weight: Element, out: &mut [u32])
-    requires coordinates { Coordinates 2 rest.now × Reduced weight }
+fn four_rows(words: &[u32], rest: Point, weight: Element, out: &mut [u32])
+    requires two { (rest.count ≡ 2) × Reduced weight }
     requires rows { Groups 4 0 (entries out.old) out.old words.now }
     ensures { Gained 0 (entries out.old)
-        (whole_rows 2 rest.now weight (entries out.old) words.now)
+        (whole_rows rest.entry weight (entries out.old) words.now)
         out.old out.new }
 {
-    let z = table::read(rest, 1);
-    let high = weight.mul(table::read(rest, 0));
+    let z = rest.read(1);
+    let high = weight.mul(rest.read(0));
     let low = weight.sub(high);
     let w1 = low.mul(z);
     let w3 = high.mul(z);
@@ -72,15 +76,15 @@ fn four_rows(words: &[u32], rest: &[u32], weight: Element, out: &mut [u32])
 }
 
 // A block of thirty-two whole rows, by the table of their weights.
-fn block_rows(words: &[u32], rest: &[u32], weight: Element, out: &mut [u32])
-    requires coordinates { Coordinates 5 rest.now × Reduced weight }
+fn block_rows(words: &[u32], rest: Point, weight: Element, out: &mut [u32])
+    requires five { (rest.count ≡ 5) × Reduced weight }
     requires rows { Groups 32 0 (entries out.old) out.old words.now × (unreduced p out.old ≡ false) }
     ensures { Gained 0 (entries out.old)
-        (whole_rows 5 rest.now weight (entries out.old) words.now)
+        (whole_rows rest.entry weight (entries out.old) words.now)
         out.old out.new }
 {
-    let mut weights = [0u32; 128];
-    point::equality::fill(&mut weights, rest, 5, BitOrder::Msb, weight);
+    let mut weights = [0u32; BLOCK_WORDS];
+    point::equality::fill(&mut weights, rest, BitOrder::Msb, weight);
     by_table(words, &weights, out);
 }
 
@@ -92,7 +96,8 @@ fn by_table(words: &[u32], weights: &[u32], out: &mut [u32])
         out.old out.new }
 {
     let inner = out.len() / 4;
-    // By index: a turn takes four elements of the table, and four rows.
+    // By number: a turn takes four elements of the table, and four rows. `chunks_exact(4 * inner)` asks that inner is not 0, which `Weighs`
+    // does not say.
     for j in 0..8 {
         let y = 4 * j;
         let start = y * inner;

@@ -11,9 +11,11 @@ ghost use Rattle.session.specs.Inner.{ready_tests};
 use field::Element;
 use ledger::Session;
 use multilinear::{Side, Weight};
+use plan::Plan;
 use table::Refusal;
 
-// A session of a table of n variables at a point; out is zeroed. Refused, there is none: `no_session` stands for it.
+// A session of a table of n variables at a point; out is zeroed. Refused, there is none: `no_session` stands for it. The six parameters are
+// those of document 01.
 #[tactic(auto, using(table::proofs::Outcomes::outcomes), unfolding(ledger::specs::Session::open_answer, ledger::specs::Session::open_leaves))]
 pub fn open(
     n: usize,
@@ -29,7 +31,14 @@ pub fn open(
     test_open(n, scale, point, out)?;
     table::clear(out);
     Ok(Session {
-        plan: plan::new(n, point.len() / 4, side, weight, scale, point),
+        plan: Plan {
+            n,
+            k: point.len() / 4,
+            side,
+            weight,
+            scale,
+            coordinates: plan::padded(point),
+        },
         taken: 0,
         closed: false,
     })
@@ -73,14 +82,14 @@ pub fn no_session() -> Session
     ensures { result ≡ no_session }
 {
     Session {
-        plan: plan::new(
-            table::MOST + 1,
-            0,
-            Side::Prefix,
-            Weight::Plain,
-            Element { c: [0, 0, 0, 0] },
-            &[],
-        ),
+        plan: Plan {
+            n: table::MOST + 1,
+            k: 0,
+            side: Side::Prefix,
+            weight: Weight::Plain,
+            scale: Element { c: [0, 0, 0, 0] },
+            coordinates: plan::padded(&[]),
+        },
         taken: 0,
         closed: false,
     }
@@ -105,7 +114,7 @@ fn test_feed(s: &Session, piece: &[u32], out: &[u32]) -> Result<(), Refusal>
     ensures { answer result ≡ feed_answer (state s.now out.now) piece.now }
 {
     test_ready(s, out)?;
-    let left = table::rows(s.plan.n) - s.taken;
+    let left = s.plan.words() - s.taken;
     table::refuse_if(field::unreduced(piece), Refusal::Unreduced)?;
     table::refuse_if(left < piece.len(), Refusal::TooLong)
 }
@@ -114,7 +123,7 @@ fn test_close(s: &Session, out: &[u32]) -> Result<(), Refusal>
     ensures { answer result ≡ close_answer (state s.now out.now) }
 {
     test_ready(s, out)?;
-    table::refuse_if(s.taken < table::rows(s.plan.n), Refusal::Missing)
+    table::refuse_if(s.taken < s.plan.words(), Refusal::Missing)
 }
 
 // 14 where out has no such element: it was tested to have 2^(n-k).
@@ -156,20 +165,13 @@ fn test_record(s: &Session) -> Result<(), Refusal>
 {
     table::refuse_if(table::MOST < s.plan.n, Refusal::Broken)?;
     table::refuse_if(s.plan.n < s.plan.k, Refusal::Broken)?;
-    let words = table::rows(s.plan.n);
+    let words = s.plan.words();
     let unused = &s.plan.coordinates[4 * s.plan.k..];
     table::refuse_if(words < s.taken, Refusal::Broken)?;
     table::refuse_if(field::unreduced(&s.plan.scale.c), Refusal::Broken)?;
     table::refuse_if(field::unreduced(&s.plan.coordinates), Refusal::Broken)?;
     table::refuse_if(has_nonzero(unused), Refusal::Broken)?;
-    table::refuse_if(is_short(s.closed, s.taken, words), Refusal::Broken)
-}
-
-// Closed before all words are taken.
-fn is_short(closed: bool, taken: usize, words: usize) -> bool
-    ensures { result ≡ (closed && ltb taken words) }
-{
-    closed && taken < words
+    table::refuse_if(s.closed && s.taken < words, Refusal::Broken)
 }
 
 // A word is not 0.

@@ -16,8 +16,11 @@ use Rattle.field.specs.declared.Element.{Element}
 use Rattle.field.proofs.Laws.{field_ring, read_as}
 use Rattle.table.specs.Table.{elements}
 use Rattle.table.proofs.Laws.{elements_length}
-use Rattle.weigh.specs.Weigh.{Whole}
-use Rattle.weigh.proofs.Moved.{some, moved, next_is}
+use Rattle.point.specs.declared.Point.{Point}
+use Rattle.point.specs.Points.{coordinates}
+use Rattle.weigh.specs.Entries.{WholeTable}
+use Rattle.weigh.proofs.WordTables.{some}
+use Rattle.weigh.proofs.Moved.{moved, next_is}
 use Rattle.work.specs.Inner.{row_weight}
 use Rattle.work.proofs.Weights.{row_weight_lem}
 use Rattle.split_eq.specs.Inner.{Weighed}
@@ -52,8 +55,8 @@ module _ (point : List ℕ) (n : ℕ) (scale : Ext) (f : ℕ → Ext) where
   scaled_next b d = rw (elements_length point 0 n, ne_eqb n 0 (λ z. omega arith), ne_eqb n 1 (λ z. omega arith)) d
 
 -- of one variable or none, that entry is there
-pub entry : {n : ℕ} {table : List ℕ} → Whole n table → n < 2 → n < length table
-entry {n} w b = rw w.count (go n b)
+pub entry : {n : ℕ} {table : List ℕ} → WholeTable 1 n table → n < 2 → n < length table
+entry {n} {table} w b = let l : length table ≡ 2 ^ n = omega (arith, w.count) in rw l (go n b)
   where
     go : (m : ℕ) → m < 2 → m < 2 ^ m
     go zero b = omega arith
@@ -61,26 +64,26 @@ entry {n} w b = rw w.count (go n b)
     go (suc (suc m)) b = absurd (omega arith)
 
 -- the words one row later, with the scale, and the last row's own, whose weight has the scale
-module _ {n : ℕ} {table : List ℕ} (w : Whole n table) (point : List ℕ) (scale : Element) where
+module _ (point : Point) {table : List ℕ} (w : WholeTable 1 point.count table) (scale : Element) where
   abbrev last : ℕ
   last = length table - 1
 
   abbrev eq : Ext
-  eq = eq_at field (elements point 0 n) last
+  eq = eq_at field (coordinates point) last
 
   abbrev word : Ext
   word = base (get_or table last 0)
 
-  pub next_sum : {work : List ℕ} → Weighed n point scale work → 2 ≤ n → {weight own rest x : Element} → Holds weight (row_weight n work last)
+  pub next_sum : {work : List ℕ} → Weighed point.count point.words.now scale work → 2 ≤ point.count → {weight own rest x : Element} → Holds weight (row_weight point.count work last)
       → Holds own (field.mul (from_words weight) word)
-      → Holds rest (field.mul (from_words scale) (moved w point))
+      → Holds rest (field.mul (from_words scale) (moved point w))
       → Holds x (field.add (from_words rest) (from_words own))
-      → Holds x (scaled_next_value_at field (elements point 0 n) (from_words scale) (λ y. base (get_or table y 0)))
+      → Holds x (scaled_next_value_at field (coordinates point) (from_words scale) (λ y. base (get_or table y 0)))
   next_sum v b d-weight d-own d-rest d =
-      scaled_next point n (from_words scale) (λ y. base (get_or table y 0)) b
+      scaled_next point.words.now point.count (from_words scale) (λ y. base (get_or table y 0)) b
       (rw (
-        next_is w point,
-        CommRing.mul_add field_ring (from_words scale) (moved w point) (field.mul eq word),
+        next_is point w,
+        CommRing.mul_add field_ring (from_words scale) (moved point w) (field.mul eq word),
         sym (CommRing.mul_assoc field_ring (from_words scale) eq word),
       )
       (rw (
@@ -88,5 +91,5 @@ module _ {n : ℕ} {table : List ℕ} (w : Whole n table) (point : List ℕ) (sc
         read_as _ d-own,
         read_as _ d-weight,
         v.holds,
-        row_weight_lem n point (from_words scale) last (omega (arith, w.count, some w)),
+        row_weight_lem point.count point.words.now (from_words scale) last (omega (arith, w.count, some w)),
       ) at d))

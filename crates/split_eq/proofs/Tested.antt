@@ -15,7 +15,8 @@ use Rattle.table.proofs.Says.{base_rows, ext_rows}
 use Rattle.table.proofs.Verdicts.{clear}
 use Rattle.point.specs.Coordinates.{Coordinates}
 use Rattle.point.proofs.Coordinates.{coordinates}
-use Rattle.weigh.specs.Weigh.{Whole, WholeExt}
+use Rattle.weigh.specs.Entries.{WholeTable}
+use Rattle.weigh.proofs.WordTables.{words_whole}
 use Rattle.work.specs.Work.{first, others, work_differs}
 use Rattle.work.specs.Inner.{BothTables, Open}
 use Rattle.split_tests.specs.SplitTests.{base_answer, ext_answer, last_tests, accumulate_answer}
@@ -33,12 +34,12 @@ module _ (point : List ℕ) (scale : Element) (work : List ℕ) where
   last_tested e = let h = clear _ tt e in search (coordinates, sized)
 
   pub base_tested : (table : List ℕ) → length table < 2 ^ 64 → 0 ≡ base_answer table point scale work
-      → Fillable point scale work × Whole (entries point) table
+      → Fillable point scale work × WholeTable 1 (entries point) table
   unfolding base_answer
-  base_tested table fits e = let h = clear _ tt e in search (coordinates, sized, base_rows)
+  base_tested table fits e = let h = clear _ tt e in search (coordinates, sized, base_rows, words_whole)
 
   pub ext_tested : (table : List ℕ) → length table < 2 ^ 64 → 0 ≡ ext_answer table point scale work
-      → Fillable point scale work × WholeExt (entries point) table
+      → Fillable point scale work × WholeTable 4 (entries point) table
   unfolding ext_answer
   ext_tested table fits e = let h = clear _ tt e in search (coordinates, sized, ext_rows)
 

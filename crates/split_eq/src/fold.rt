@@ -10,10 +10,12 @@ ghost use Rattle.split_eq.specs.Split.{Compressed};
 
 use field::Element;
 use multilinear::{Side, Weight};
+use plan::Plan;
+use point::Point;
 use table::Refusal;
 
 // out[i] = scale sum_y eq[y] table[y inner + i].
-// A function for each side and weight: the Rust has these names, and C calls them.
+// Document 01 names an operation for each side and weight.
 pub fn compress_prefix(
     table: &[u32],
     point: &[u32],
@@ -92,7 +94,8 @@ struct Kind {
     weight: Weight,
 }
 
-// work is filled with both tables, and out by the plan of the fold.
+// work is filled with both tables, and out by the plan of the fold. Six parameters: those of document 01's operation, and the kind; a
+// struct of three for this one call is no plainer.
 #[tactic(auto, using(table::proofs::Outcomes::outcomes), unfolding(crate::specs::Split::fold_work, crate::specs::Split::fold_out))]
 fn compress(
     kind: Kind,
@@ -106,13 +109,15 @@ fn compress(
         result work.new out.new }
 {
     split_tests::of_fold(table, point, scale, work, out)?;
-    let k = point.len() / 4;
-    let n = table::variables(table.len());
-    work::fill(work, point, k, scale);
-    piece::fold(
-        plan::new(n, k, kind.side, kind.weight, scale, point),
-        table,
-        out,
-    );
+    work::fill(work, Point::of(point), scale);
+    let plan = Plan {
+        n: table::variables(table.len()),
+        k: point.len() / 4,
+        side: kind.side,
+        weight: kind.weight,
+        scale,
+        coordinates: plan::padded(point),
+    };
+    piece::fold(plan, table, out);
     Ok(())
 }

@@ -5,6 +5,7 @@ ghost use Rattle.split_tests.specs.SplitTests.{accumulate_answer};
 ghost use Rattle.split_eq.specs.Split.{last_answer, last_work, accumulate_work, accumulate_out};
 
 use field::Element;
+use point::Point;
 use table::Refusal;
 
 // scale eq[2^k - 1], the last row's.
@@ -14,9 +15,9 @@ pub fn last_scalar(point: &[u32], scale: Element, work: &mut [u32]) -> Result<El
     ensures work_after { work.new ≡ last_work point.now scale work.old }
 {
     split_tests::of_last(point, scale, work)?;
-    let k = point.len() / 4;
-    work::fill(work, point, k, scale);
-    Ok(work::weight(work, k, table::rows(k) - 1))
+    let point = Point::of(point);
+    work::fill(work, point, scale);
+    Ok(work::weight(work, point.count, table::rows(point.count) - 1))
 }
 
 // out[y] gains scale given eq[y].
@@ -36,8 +37,8 @@ pub fn accumulate_into(
         ≡ accumulate_out point.now scale given work.old out.old }
 {
     split_tests::of_accumulate(point, scale, given, work, out)?;
-    let k = point.len() / 4;
-    work::fill(work, point, k, scale);
-    work::accumulate(work, k, given, out);
+    let point = Point::of(point);
+    work::fill(work, point, scale);
+    work::accumulate(work, point.count, given, out);
     Ok(())
 }

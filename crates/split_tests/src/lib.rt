@@ -1,4 +1,5 @@
-// The tests of the split folds, the values with a scale and the weights, each list in its order; the first that holds is given.
+// The tests of the split folds, the values with a scale and the weights, each list in its order; the first that holds is given. The
+// parameters are those of document 01's operations, in their order.
 #![tactic(auto, using(table::proofs::Verdicts::tests))]
 
 ghost use Rattle.std.specs.Prelude.{◌≡◌};
@@ -26,9 +27,7 @@ pub fn of_fold(
     table::refuse_if(table::splits(point), Refusal::Split)?;
     table::refuse_if(table::splits(work), Refusal::Split)?;
     table::refuse_if(table::splits(out), Refusal::Split)?;
-    table::refuse_if(table::not_power(table.len()), Refusal::NotPower)?;
-    table::refuse_if(table::too_many_variables(table.len()), Refusal::TooMany)?;
-    table::refuse_if(table::too_many(point), Refusal::TooMany)?;
+    table::test_entries(table.len(), point)?;
     table::refuse_if(n < k, Refusal::Lengths)?;
     table::refuse_if(work::differs(work, k), Refusal::Lengths)?;
     table::refuse_if(
@@ -48,7 +47,8 @@ pub fn of_base(table: &[u32], point: &[u32], scale: Element, work: &[u32]) -> Re
     value(table.len(), table, point, scale, work)
 }
 
-// Of the value of a table of elements, which has a 1 of its own.
+// Of the value of a table of elements: a 1 more, of the table. As one with `of_base`, as `poly::value` has it, no plainer: what
+// `split_eq::value` answers and leaves goes by the two lists, and would need a lemma each.
 #[tactic(auto, using(table::proofs::Verdicts::tests), unfolding(crate::specs::SplitTests::ext_answer))]
 pub fn of_ext(table: &[u32], point: &[u32], scale: Element, work: &[u32]) -> Result<(), Refusal>
     ensures { answer result ≡ ext_answer table.now point.now scale work.now }
@@ -101,9 +101,7 @@ fn value(
     ensures { answer result ≡ verdict (value_tests count table.now point.now scale work.now) }
 {
     let k = point.len() / 4;
-    table::refuse_if(table::not_power(count), Refusal::NotPower)?;
-    table::refuse_if(table::too_many_variables(count), Refusal::TooMany)?;
-    table::refuse_if(table::too_many(point), Refusal::TooMany)?;
+    table::test_entries(count, point)?;
     table::refuse_if(table::variables(count) != k, Refusal::Lengths)?;
     table::refuse_if(work::differs(work, k), Refusal::Lengths)?;
     words(table, point, scale)

@@ -4,7 +4,7 @@
 //     element      0      |      1      | ..
 #![tactic(auto)]
 
-ghost use Rattle.std.specs.Prelude.{◌≡◌, false, true, not, MatchResult, ◌+◌, ◌-◌, ◌*◌, ◌^◌, ◌≤◌, ◌<◌, min, eqb, length, replicate};
+ghost use Rattle.std.specs.Prelude.{◌≡◌, false, true, not, MatchResult, ◌+◌, ◌*◌, ◌^◌, ◌≤◌, ◌<◌, eqb, length, replicate};
 ghost use Rattle.algebra.specs.Words.{unreduced};
 ghost use Rattle.field.specs.Field.{p, Holds};
 ghost use Rattle.table.specs.Table.{get_at, put_at, element_at, entries};
@@ -148,23 +148,6 @@ pub fn too_many_variables(n: usize) -> bool
     MOST < variables(n)
 }
 
-// The smaller of two numbers.
-pub fn min(a: usize, b: usize) -> usize
-    ensures { result ≡ min a b }
-{
-    if a < b { a } else { b }
-}
-
-// n - k, or 0 where k is above n.
-pub fn remaining(n: usize, k: usize) -> usize
-    ensures { result ≡ n - k }
-{
-    if n < k {
-        return 0;
-    }
-    n - k
-}
-
 // The rows of k coordinates.
 pub fn rows(k: usize) -> usize
     requires { k ≤ most }
@@ -174,6 +157,7 @@ pub fn rows(k: usize) -> usize
 }
 
 // Element i of ws.
+#[tactic(auto, unfolding(crate::specs::Table::get_at))]
 pub fn get(ws: &[u32], i: usize) -> Element
     requires { 4 * i + 3 < length ws.now }
     ensures { result ≡ get_at ws.now i }
@@ -193,11 +177,13 @@ pub fn read(ws: &[u32], i: usize) -> Element
 }
 
 // Sets element i of ws to e.
+#[tactic(auto, unfolding(crate::specs::Table::put_at))]
 pub fn put(ws: &mut [u32], i: usize, e: Element)
     requires { 4 * i + 3 < length ws.old }
     ensures { ws.new ≡ put_at ws.old i e }
 {
     let b = 4 * i;
+    // Word by word, as `put_at` says it: of `copy_from_slice` (tried) that does not follow without a proof by hand.
     ws[b] = e.c[0];
     ws[b + 1] = e.c[1];
     ws[b + 2] = e.c[2];
@@ -209,4 +195,11 @@ pub fn clear(ws: &mut [u32])
     ensures { ws.new ≡ replicate (length ws.old) 0 }
 {
     ws.fill(0)
+}
+
+// Words of 0, as many as the caller has room for. A function: a literal of so many words would stand in each goal of the caller.
+pub fn zeros<const N: usize>() -> [u32; N]
+    ensures { result ≡ replicate N 0 }
+{
+    [0u32; N]
 }

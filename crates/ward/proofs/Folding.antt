@@ -17,13 +17,14 @@ use Rattle.table.specs.Refusals.{most, not_power, variables}
 use Rattle.table.proofs.Powers.{power_of}
 use Rattle.table.proofs.Tests.{same}
 use Rattle.table.proofs.Verdicts.{clear}
+use Rattle.point.specs.declared.Point.{Point}
 use Rattle.point.specs.Coordinates.{Coordinates}
 use Rattle.point.proofs.Coordinates.{coordinates}
 use Rattle.work.specs.Work.{first, others, work_words}
 use Rattle.split_eq.specs.Split.{both_tables, folded}
 use Rattle.plan.specs.declared.Plan.{Plan}
 use Rattle.plan.specs.Plan.{plan_of, fold_of}
-use Rattle.byte_fold.specs.Inner.{FillsBytes}
+use Rattle.byte_fold.specs.Takes.{FillsBytes}
 use Rattle.byte_points.specs.Few.{Few}
 use Rattle.byte_points.proofs.Sizes.{whole_words, few, sized}
 use Rattle.ward.specs.declared.shifted.Fold.{Fold}
@@ -66,8 +67,11 @@ module _ {fold : Fold} {work out : List ℕ} (t : Tested fold work out) {n' : �
   abbrev k' : ℕ
   k' = length point / 4 / 4
 
-  pub tables : Tables k' ps fold.scale work
-  tables = rw (ep, ← words_length point) (record { point_is = t.point_is; scale_is = t.scale_is; room = t.work_room })
+  pub point_is : Coordinates (entries ps) ps
+  point_is = rw ep t.point_is
+
+  pub tables : {z : Point} → z.count ≡ entries ps → Tables z fold.scale work
+  tables q = record { scale_is = t.scale_is; room = rw (q, ep) t.work_room }
 
   pub plan_takes : length ps ≤ 4 * most
   plan_takes = rw ep (omega (arith, words_length point, t.point_few.few))
@@ -101,8 +105,9 @@ module _ {fold : Fold} {work out : List ℕ} (t : Tested fold work out) {n' : �
         room = t.out_room;
       })
 
-  pub filled : {w : List ℕ} → w ≡ octets (work_words k' ps (from_words fold.scale)) → w ≡ octets (both_tables (words point) fold.scale)
-  filled q = q ∙ (rw (ep, words_length point))
+  pub filled : (z : Point) {w : List ℕ} → z.words.now ≡ ps → z.count ≡ entries ps
+      → w ≡ octets (work_words z.count z.words.now (from_words fold.scale)) → w ≡ octets (both_tables (words point) fold.scale)
+  filled z a b q = q ∙ rw (a, b, ep)
 
   pub folded_as : {o : List ℕ} → o ≡ octets (fold_of planned (words table))
       → o ≡ octets (folded fold.side Shifted (words table) (words point) fold.scale)

@@ -8,6 +8,7 @@ use lib.Pow.{pow_mono}
 use lib.Seq.{length-take-le}
 use Rattle.field.specs.declared.Element.{Element}
 use Rattle.table.specs.Refusals.{most}
+use Rattle.point.specs.declared.Point.{Point}
 use Rattle.work.specs.Work.{first, others}
 use Rattle.ward.specs.Inner.{Tables}
 
@@ -18,9 +19,9 @@ both_small k h =
     omega arith
 
 -- the words that are lent of the room
-module _ {k : ℕ} {point work : List ℕ} {scale : Element} (t : Tables k point scale work) where
+module _ {point : Point} {work : List ℕ} {scale : Element} (t : Tables point scale work) where
   pub fits : {room : List ℕ} → room ≡ replicate 8192 0 → length work / 4 ≤ length room
-  fits e = omega (arith, t.room, both_small k t.point_is.few, ap length e ∙ length-replicate {A = ℕ} 8192 0)
+  fits e = omega (arith, t.room, both_small point.count point.tested.few, ap length e ∙ length-replicate {A = ℕ} 8192 0)
 
   pub lent : {room : List ℕ} → room ≡ replicate 8192 0 → length (take (length work / 4) room) ≡ length work / 4
   lent {room} e = length-take-le (length work / 4) room (fits e)

@@ -1,3 +1,4 @@
+mod Testing
 mod Halves
 mod FoldOutcomes
 mod Folding

@@ -5,7 +5,7 @@ use Rattle.field.specs.Field.{Reduced}
 use Rattle.field.specs.declared.Element.{Element}
 use Rattle.table.specs.Refusals.{Test, verdict}
 use Rattle.table.specs.Inner.{entry_tests}
-use Rattle.point.specs.Coordinates.{Coordinates}
+use Rattle.point.specs.declared.Point.{Point}
 use Rattle.work.specs.Work.{first, others}
 use Rattle.split_tests.specs.SplitTests.{sized_fold_tests}
 use Rattle.ward.specs.declared.shifted.Fold.{Fold}
@@ -29,8 +29,7 @@ pub record Sized (fold : Fold) (work out : List ℕ) : Type 0 where
 pub record Accepts (fold : Fold) (work out : List ℕ) : Type 0 where
   pub accepted : 0 ≡ fold_answer fold.table.now fold.point.now fold.scale work out
 
--- k coordinates and a scale, and the bytes of both tables
-pub record Tables (k : ℕ) (point : List ℕ) (scale : Element) (work : List ℕ) : Type 0 where
-  pub point_is : Coordinates k point
+-- a scale, and the bytes of both tables of a point
+pub record Tables (point : Point) (scale : Element) (work : List ℕ) : Type 0 where
   pub scale_is : Reduced scale
-  pub room : length work ≡ 16 * (2 ^ first k + 2 ^ others k)
+  pub room : length work ≡ 16 * (2 ^ first point.count + 2 ^ others point.count)

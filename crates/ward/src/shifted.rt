@@ -1,5 +1,5 @@
 // The shifted folds. The point and the work buffer's tables are decoded into arrays of the function's own, the table is read in place.
-ghost use Rattle.std.specs.Prelude.{◌≡◌, replicate};
+ghost use Rattle.std.specs.Prelude.{◌≡◌};
 ghost use Rattle.octets.specs.Octets.{words, octets};
 ghost use Rattle.algebra.specs.Words.{unreduced};
 ghost use Rattle.multilinear.specs.declared.Weight.TheVariants.{Shifted};
@@ -12,7 +12,12 @@ ghost use Rattle.ward.specs.Inner.{size_tests, other_tests, Sized, Accepts, Tabl
 
 use field::Element;
 use multilinear::{Side, Weight};
+use plan::Plan;
+use point::Point;
 use table::Refusal;
+
+// The words of two tables of 10 coordinates.
+const TABLES: usize = 2 * (4 << 10);
 
 // What is folded: a table and a point in bytes, and a scale.
 #[derive(Clone, Copy)]
@@ -89,10 +94,17 @@ impl<'a> Fold<'a> {
     {
         let n = table::variables(self.table.len() / 4);
         let k = self.point.len() / 4 / 4;
-        let mut room = plan::room();
+        let mut room = table::zeros::<{ plan::WORDS }>();
         let point = byte_points::coordinates(self.point, &mut room);
-        fill_tables(work, point, k, self.scale);
-        let plan = plan::new(n, k, self.side, Weight::Shifted, self.scale, point);
+        fill_tables(work, Point::of(point), self.scale);
+        let plan = Plan {
+            n,
+            k,
+            side: self.side,
+            weight: Weight::Shifted,
+            scale: self.scale,
+            coordinates: plan::padded(point),
+        };
         byte_fold::compress(plan, self.table, out);
     }
 }
@@ -102,27 +114,19 @@ fn is_unreduced(bytes: &[u8]) -> bool
     ensures { result ≡ unreduced p (words bytes.now) }
 {
     let mut found = false;
-    // By number: the bytes behind the last whole word are no word.
-    for i in 0..bytes.len() / 4 {
-        found = field::or_above(found, octets::word_at(bytes, i));
+    for four in bytes.chunks_exact(4) {
+        found = field::or_above(found, octets::word_at(four, 0));
     }
     found
 }
 
 // Both tables of the point, as bytes.
-fn fill_tables(work: &mut [u8], point: &[u32], k: usize, scale: Element)
-    requires { Tables k point.now scale work.old }
-    ensures { work.new ≡ octets (work_words k point.now (from_words scale)) }
+fn fill_tables(work: &mut [u8], point: Point, scale: Element)
+    requires { Tables point scale work.old }
+    ensures { work.new ≡ octets (work_words point.entry.count point.entry.words.now (from_words scale)) }
 {
-    let mut room = tables_room();
+    let mut room = table::zeros::<TABLES>();
     let tables = &mut room[..work.len() / 4];
-    work::fill(tables, point, k, scale);
+    work::fill(tables, point, scale);
     octets::encode(tables, work);
-}
-
-// The words of two tables of 10 coordinates.
-fn tables_room() -> [u32; 8192]
-    ensures { result ≡ replicate 8192 0 }
-{
-    [0u32; 8192]
 }

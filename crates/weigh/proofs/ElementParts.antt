@@ -1,6 +1,6 @@
 -- What `halves_ext` lends its calls, and what they give. Assumes nothing.
 use mathlib.Core.Path.{◌≡◌}
-use Prim.Native.Nat.{ℕ, suc, ◌+◌, ◌-◌, ◌*◌, ◌^◌, ◌≤◌}
+use Prim.Native.Nat.{ℕ, suc, ◌+◌, ◌-◌, ◌*◌, ◌/◌, ◌^◌, ◌≤◌}
 use native.Mathlib.Nat.{zero-add}
 use native.Mathlib.Omega.{arith}
 use mathlib.Core.List.{List}
@@ -13,62 +13,54 @@ use Rattle.field.specs.declared.Element.{Element}
 use Rattle.table.specs.Table.{element_at}
 use Rattle.table.proofs.Parts.{rest}
 use Rattle.dots.specs.Dots.{Pairs}
-use Rattle.weigh.specs.Weigh.{PartsExt, block_sum_ext, part_value_ext}
-use Rattle.weigh.proofs.TableHalves.{half_there_ext, low_whole_ext, high_whole_ext, low_element, high_element}
-use Rattle.weigh.proofs.Splitting.{one_block, more, fewer, joined}
+use Rattle.weigh.specs.declared.blocks.SplitPoint.{SplitPoint}
+use Rattle.weigh.specs.Entries.{WholeTable, elements_parted}
+use Rattle.weigh.specs.Blocks.{After, part_value_ext}
+use Rattle.weigh.proofs.TableHalves.{half_there as table_half, low_whole, high_whole, low_entry, high_entry}
+use Rattle.weigh.proofs.Splitting.{one_block, more, joined}
 
-module _ {point ws block : List ℕ} {i high low : ℕ} (parts : PartsExt i high low point ws block) where
-  module _ (none : high ≡ 0) (rows : ℕ) (e : rows ≡ 2 ^ low) where
-    pub pairs : Pairs rows block ws
+module _ (a : SplitPoint) {ws : List ℕ} (entries : WholeTable 4 (a.high.count + a.low) ws) where
+  module _ (none : a.high.count ≡ 0) where
+    abbrev rows : ℕ
+    rows = length ws / 4
+
+    count : length ws ≡ 4 * 2 ^ a.low
+    count = rw (none, zero-add) at entries.count
+
+    e : rows ≡ 2 ^ a.low
+    e = omega (arith, count)
+
+    pub pairs : Pairs rows a.block.now ws
     pairs =
-        let count : length ws ≡ 4 * 2 ^ low = rw (none, zero-add) at parts.entries_are.count in
         record {
-          few = omega (arith, e, pow_mono parts.small);
-          weights_there = omega (arith, e, parts.room);
+          few = omega (arith, e, pow_mono a.summed.small);
+          weights_there = omega (arith, e, a.summed.room.enough);
           entries_there = omega (arith, e, count);
-          weights_below = parts.below;
-          entries_below = parts.entries_are.below;
+          weights_below = a.summed.room.below;
+          entries_below = entries.below;
         }
 
-    pub paired : {x : Element} → Holds x (sum_to field rows (λ y. field.mul (element_at block y) (element_at ws y)))
-        → Holds x (part_value_ext i high low point ws block)
-    unfolding block_sum_ext
-    paired d = one_block point block i high low (element_at ws) none (rw e at d)
+    pub paired : {x : Element} → Holds x (sum_to field rows (λ y. field.mul (element_at a.block.now y) (element_at ws y)))
+        → Holds x (part_value_ext a ws)
+    paired d = one_block a (element_at ws) none (rw e at d)
 
-  module _ (left : high ≡ 0 → ⊥) (half : ℕ) (e : half ≡ 2 ^ (high - 1 + low)) where
-    abbrev one_less : high + low ≡ suc (high - 1 + low)
-    one_less = more point block i high low left
+  module _ (left : a.high.count ≡ 0 → ⊥) {rest_is : SplitPoint} (is : After 1 a rest_is) {half : ℕ} (e : half ≡ 2 ^ (a.high.count - 1 + a.low)) where
+    abbrev one_less : a.high.count + a.low ≡ suc (a.high.count - 1 + a.low)
+    one_less = more a left
 
-    pub half_there : 4 * half ≤ length ws
-    half_there = half_there_ext one_less e parts.entries_are
+    pub low_half : WholeTable 4 (rest_is.high.count + rest_is.low) (take (4 * half) ws)
+    low_half = rw (is.high.count, is.low) (low_whole one_less e entries)
 
-    pub low_parts : PartsExt (i + 1) (high - 1) low point (take (4 * half) ws) block
-    low_parts =
-        record {
-          point_is = fewer point block i high low left parts.point_is;
-          entries_are = low_whole_ext one_less e parts.entries_are;
-          small = parts.small;
-          room = parts.room;
-          below = parts.below;
-        }
+    pub high_half : WholeTable 4 (rest_is.high.count + rest_is.low) (rest half ws)
+    high_half = rw (is.high.count, is.low) (high_whole one_less e entries)
 
-    pub high_parts : PartsExt (i + 1) (high - 1) low point (rest half ws) block
-    high_parts =
-        record {
-          point_is = fewer point block i high low left parts.point_is;
-          entries_are = high_whole_ext one_less e parts.entries_are;
-          small = parts.small;
-          room = parts.room;
-          below = parts.below;
-        }
-
-    pub elements_joined : {at0 at1 r x : Element}
-        → Holds at0 (part_value_ext (i + 1) (high - 1) low point (take (4 * half) ws) block)
-        → Holds at1 (part_value_ext (i + 1) (high - 1) low point (rest half ws) block)
-        → Holds r (element_at point i) → Holds x (line field (from_words at0) (from_words at1) (from_words r))
-        → Holds x (part_value_ext i high low point ws block)
-    unfolding block_sum_ext
+    pub elements_joined : {at0 at1 r x : Element} → Holds at0 (part_value_ext rest_is (take (4 * half) ws))
+        → Holds at1 (part_value_ext rest_is (rest half ws)) → Holds r (element_at a.high.words.now 0)
+        → Holds x (line field (from_words at0) (from_words at1) (from_words r)) → Holds x (part_value_ext a ws)
     elements_joined =
-        joined point block i high low left (element_at ws) (element_at (take (4 * half) ws)) (element_at (rest half ws))
-        (low_element one_less e parts.entries_are)
-        (λ y b. high_element one_less e parts.entries_are y)
+        joined a left is (element_at ws) (element_at (take (4 * half) ws)) (element_at (rest half ws))
+        (low_entry one_less e elements_parted ws) (λ y b. high_entry one_less e elements_parted ws y)
+
+  -- the low half is there
+  pub half_there : (a.high.count ≡ 0 → ⊥) → {half : ℕ} → half ≡ 2 ^ (a.high.count - 1 + a.low) → 4 * half ≤ length ws
+  half_there left e = table_half (more a left) e entries

@@ -1,7 +1,7 @@
 -- A table's value by halves: from those of its halves, at the first coordinate, down to one entry. Assumes nothing.
-use mathlib.Core.Path.{◌≡◌, sym, ap, ap₂, ◌∙◌}
+use mathlib.Core.Path.{◌≡◌, refl, sym, ap, ap₂, ◌∙◌}
 use Prim.Native.Nat.{ℕ, suc, ◌+◌, ◌-◌, ◌^◌, ◌<◌}
-use native.Mathlib.Nat.{pos_of_ne-zero, two-pow-succ}
+use native.Mathlib.Nat.{pos_of_ne-zero, two-pow-succ, add-zero}
 use native.Mathlib.Numerals.{add-one}
 use native.Mathlib.Omega.{arith}
 use mathlib.Core.List.{List, ◌∷◌}
@@ -14,6 +14,10 @@ use Rattle.field.specs.declared.Element.{Element}
 use Rattle.field.proofs.Laws.{field_ring, read_as}
 use Rattle.table.specs.Table.{element_at, elements}
 use Rattle.table.proofs.Laws.{elements_length}
+use Rattle.table.proofs.Parts.{elements_drop}
+use Rattle.point.specs.declared.Point.{Point}
+use Rattle.point.specs.Points.{coordinates}
+use Rattle.weigh.specs.Weigh.{Rest}
 
 -- the variables are one more than those of a half
 pub one_more : {n : ℕ} → (n ≡ 0 → ⊥) → n ≡ suc (n - 1)
@@ -35,9 +39,9 @@ module _ (point : List ℕ) (i : ℕ) where
     abbrev zs : List Ext
     zs = elements point (i + 1) m
 
-    coordinates : elements point i n ≡ element_at point i ∷ zs
+    first_apart : elements point i n ≡ element_at point i ∷ zs
     unfolding elements
-    coordinates = ap (elements point i) e ∙ ap (λ a. element_at point i ∷ elements point a m) (sym (add-one i))
+    first_apart = ap (elements point i) e ∙ ap (λ a. element_at point i ∷ elements point a m) (sym (add-one i))
 
     below : (y : ℕ) → y < 2 ^ length zs → y < 2 ^ m
     below y b = rw (elements_length point (i + 1) m) at b
@@ -45,7 +49,7 @@ module _ (point : List ℕ) (i : ℕ) where
     at_first : value_at field (elements point i n) f
         ≡ line field (value_at field zs low_half) (value_at field zs high_half) (element_at point i)
     at_first =
-        ap (λ us. value_at field us f) coordinates
+        ap (λ us. value_at field us f) first_apart
         ∙ value_step field_ring (element_at point i) zs f
         ∙ ap₂ (λ a b. line field a b (element_at point i))
         (value_ext field_ring zs _ _ (λ y b. sym (e0 y (below y b))))
@@ -54,3 +58,17 @@ module _ (point : List ℕ) (i : ℕ) where
     pub joined : {at0 at1 x : Element} → Holds at0 (value_at field zs low_half) → Holds at1 (value_at field zs high_half)
         → Holds x (line field (from_words at0) (from_words at1) (element_at point i)) → Holds x (value_at field (elements point i n) f)
     joined d0 d1 d = rw at_first (rw (read_as _ d0, read_as _ d1) at d)
+
+-- what is left of a point's coordinates after the first k
+pub rest_coordinates : {k : ℕ} (point : Point) {rest : Point} → Rest k point rest → coordinates rest ≡ elements point.words.now k (point.count - k)
+rest_coordinates {k} point r = rw (r.words, r.count, elements_drop k 0 (point.count - k) point.words.now, add-zero) refl
+
+-- the values of the halves at a point's other coordinates, on the line at the first
+module _ (point : Point) {rest : Point} (r : Rest 1 point rest) (left : point.count ≡ 0 → ⊥) (f low_half high_half : ℕ → Ext)
+    (e0 : (y : ℕ) → y < 2 ^ (point.count - 1) → low_half y ≡ f y)
+    (e1 : (y : ℕ) → y < 2 ^ (point.count - 1) → high_half y ≡ f (2 ^ (point.count - 1) + y)) where
+  pub rest_joined : {at0 at1 x : Element} → Holds at0 (value_at field (coordinates rest) low_half)
+      → Holds at1 (value_at field (coordinates rest) high_half)
+      → Holds x (line field (from_words at0) (from_words at1) (element_at point.words.now 0)) → Holds x (value_at field (coordinates point) f)
+  rest_joined d0 d1 =
+      joined point.words.now 0 (one_more left) f low_half high_half e0 e1 (rw (rest_coordinates point r) at d0) (rw (rest_coordinates point r) at d1)

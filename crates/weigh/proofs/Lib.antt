@@ -1,10 +1,12 @@
-pub mod Blocks
+pub mod Filling
 pub mod Halving
 pub mod TableHalves
 pub mod FewVariables
 pub mod Splitting
+pub mod PieceHalves
 pub mod WordParts
 pub mod OneRow
 pub mod ElementParts
 pub mod Weighing
+pub mod WordTables
 pub mod Moved

@@ -2,9 +2,9 @@
 use mathlib.Core.Path.{◌≡◌, refl, sym, ap, ◌∙◌}
 use Prim.Native.Nat.{ℕ, suc, ◌+◌, ◌-◌, ◌*◌, ◌/◌, ◌%◌, ◌^◌, ◌≤◌, ◌<◌}
 use native.Mathlib.Decide.{dec_lt}
-use native.Mathlib.Nat.{add-mul, mul_assoc, mul-le-mul_right, div-add-mod'}
+use native.Mathlib.Nat.{zero-add, add-mul, mul_assoc, mul-le-mul_right, div-add-mod'}
 use native.Mathlib.Omega.{arith}
-use mathlib.Core.List.{List}
+use mathlib.Core.List.{List, ◌++◌}
 use lib.ListN.{length}
 use lib.Pow.{pow-add}
 use Rattle.algebra.proofs.Sums.{sum_ext}
@@ -17,11 +17,13 @@ use Rattle.field.specs.declared.Element.{Element}
 use Rattle.field.proofs.Laws.{field_ring, read_as}
 use Rattle.table.specs.Table.{element_at, elements, placed}
 use Rattle.table.proofs.Laws.{elements_length}
-use Rattle.table.proofs.Parts.{rest, rest_length, rest_below, rest_elements, elements_cut}
+use Rattle.table.proofs.Parts.{elements_cut}
 use Rattle.table.proofs.Placed.{placed_before, placed_word, placed_after}
-use Rattle.point.specs.Coordinates.{Coordinates}
-use Rattle.weigh.specs.Weigh.{Parts, InRow, block_sum, part_value}
-use Rattle.weigh.proofs.Splitting.{within}
+use Rattle.weigh.specs.declared.blocks.Piece.{Piece}
+use Rattle.weigh.specs.declared.blocks.SplitPoint.{SplitPoint}
+use Rattle.weigh.specs.Weigh.{block_sum}
+use Rattle.weigh.specs.Blocks.{Fits, InRow, After, blocks_value, part_value}
+use Rattle.weigh.proofs.Splitting.{within, after_value}
 use Rattle.weigh.proofs.WordParts.{no_words}
 
 -- words that stand a rows further
@@ -36,13 +38,24 @@ placed_further a from words y = go (dec_lt y from)
         ap (placed (a + from) words) q ∙ placed_word (a + from) words (y - from) ∙ sym (placed_word from words (y - from))
         ∙ ap (placed from words) r
 
-module _ {point words block : List ℕ} {i high own low from : ℕ} (parts : Parts i high low from point words block)
-    (is : InRow high own low from words) {rows : ℕ} (e : rows ≡ 2 ^ (own + low)) where
+module _ (a : SplitPoint) {own : ℕ} (piece : Piece) (fits : Fits a piece) (is : InRow own a piece) {rows : ℕ} (e : rows ≡ 2 ^ (own + a.low)) where
+  abbrev words : List ℕ
+  words = piece.words.now
+
+  abbrev from : ℕ
+  from = piece.from
+
+  abbrev before : ℕ
+  before = a.high.count - own
+
   abbrev row : ℕ
   row = from / rows
 
   abbrev start : ℕ
   start = from % rows
+
+  own_left : a.high.count - before ≡ own
+  own_left = omega (arith, is.own_fits)
 
   from_is : row * rows + start ≡ from
   from_is = div-add-mod' from rows
@@ -50,47 +63,32 @@ module _ {point words block : List ℕ} {i high own low from : ℕ} (parts : Par
   together : start + length words ≤ rows
   together = rw e is.together
 
-  pub coordinates : Coordinates (high - own) (rest i point)
-  coordinates =
-      let c = parts.point_is in
-      record {
-        few = omega (arith, c.few);
-        count = omega (arith, c.count, rest_length i point);
-        below = rest_below i point c.below;
-      }
-
-  pub own_parts : Parts (i + (high - own)) own low start point words block
-  own_parts =
-      let q : i + (high - own) + own + low ≡ i + high + low = omega (arith, is.own_fits) in
-      record {
-        point_is = rw q parts.point_is;
-        fits = omega (arith, e, together);
-        words_below = parts.words_below;
-        small = parts.small;
-        room = parts.room;
-        below = parts.below;
-      }
+  pub own_fits : {rest : SplitPoint} → After before a rest → start + length words ≤ 2 ^ (rest.high.count + rest.low)
+  own_fits r = rw (r.high.count, r.low, own_left, sym e) together
 
   abbrev us : List Ext
-  us = elements point i (high - own)
+  us = elements a.high.words.now 0 before
 
   abbrev vs : List Ext
-  vs = elements point (i + (high - own)) own
+  vs = elements a.high.words.now before own
+
+  whole : us ++ vs ≡ elements a.high.words.now 0 a.high.count
+  whole = rw zero-add at (elements_cut a.high.words.now 0 is.own_fits)
 
   row_there : row < 2 ^ length us
-  row_there = rw (elements_length point i (high - own)) (go (dec_lt row (2 ^ (high - own))))
+  row_there = rw (elements_length a.high.words.now 0 before) (go (dec_lt row (2 ^ before)))
     where
-      all_rows : 2 ^ (high + low) ≡ 2 ^ (high - own) * rows
+      all_rows : 2 ^ (a.high.count + a.low) ≡ 2 ^ before * rows
       all_rows =
-          let q : high + low ≡ high - own + (own + low) = omega (arith, is.own_fits) in
-          ap (λ n. 2 ^ n) q ∙ pow-add 2 (high - own) (own + low) ∙ ap (λ n. 2 ^ (high - own) * n) (sym e)
+          let q : a.high.count + a.low ≡ before + (own + a.low) = omega (arith, is.own_fits) in
+          ap (λ n. 2 ^ n) q ∙ pow-add 2 before (own + a.low) ∙ ap (λ n. 2 ^ before * n) (sym e)
 
-      go : Dec (row < 2 ^ (high - own)) → row < 2 ^ (high - own)
+      go : Dec (row < 2 ^ before) → row < 2 ^ before
       go (yes h) = h
       go (no h) =
-          let l : 2 ^ (high - own) ≤ row = omega arith in
-          let m : 2 ^ (high - own) * rows ≤ row * rows = mul-le-mul_right rows l in
-          absurd (omega (arith, from_is, all_rows, parts.fits, is.some))
+          let l : 2 ^ before ≤ row = omega arith in
+          let m : 2 ^ before * rows ≤ row * rows = mul-le-mul_right rows l in
+          absurd (omega (arith, from_is, all_rows, fits, is.some))
 
   -- the words of row h
   early : (h t : ℕ) → h < row → t < rows → placed from words (h * rows + t) ≡ 0
@@ -106,43 +104,51 @@ module _ {point words block : List ℕ} {i high own low from : ℕ} (parts : Par
   own_row : (t : ℕ) → placed from words (row * rows + t) ≡ placed start words t
   own_row t = ap (λ n. placed n words (row * rows + t)) (sym from_is) ∙ placed_further (row * rows) start words t
 
-  -- and their value
+  -- the sums of the blocks
+  abbrev sums : (ℕ → ℕ) → ℕ → Ext
+  sums word = block_sum a.low a.block.now (λ y. base (word y))
+
+  -- and the value of a row
   abbrev row_at : ℕ → Ext
-  row_at h = value_at field vs (λ l. block_sum low block (placed from words) (h * 2 ^ length vs + l))
+  row_at h = value_at field vs (λ l. sums (placed from words) (h * 2 ^ length vs + l))
 
   row_value : (h : ℕ) (word : ℕ → ℕ) → ((t : ℕ) → t < rows → placed from words (h * rows + t) ≡ word t)
-      → row_at h ≡ value_at field vs (block_sum low block word)
+      → row_at h ≡ value_at field vs (sums word)
   unfolding block_sum
   row_value h word q =
       value_ext field_ring vs _ _
-      (λ l b. sum_ext field_ring (2 ^ low) _ _
-      (λ m c. ap (λ w. field.mul (element_at block m) (base w))
-      (ap (placed from words) (place l m) ∙ q _ (rw e (within own low l m (below l b) c)))))
+      (λ l b. sum_ext field_ring (2 ^ a.low) _ _
+      (λ m c. ap (λ w. field.mul (element_at a.block.now m) (base w))
+      (ap (placed from words) (place l m) ∙ q _ (rw e (within own a.low l m (below l b) c)))))
     where
       below : (l : ℕ) → l < 2 ^ length vs → l < 2 ^ own
-      below l b = rw (elements_length point (i + (high - own)) own) at b
+      below l b = rw (elements_length a.high.words.now before own) at b
 
-      place : (l m : ℕ) → (h * 2 ^ length vs + l) * 2 ^ low + m ≡ h * rows + (l * 2 ^ low + m)
+      place : (l m : ℕ) → (h * 2 ^ length vs + l) * 2 ^ a.low + m ≡ h * rows + (l * 2 ^ a.low + m)
       place l m =
-          rw (elements_length point (i + (high - own)) own)
+          rw (elements_length a.high.words.now before own)
           (omega (
             arith,
-            add-mul (h * 2 ^ own) l (2 ^ low),
-            mul_assoc h (2 ^ own) (2 ^ low),
-            ap (λ n. h * n) (e ∙ pow-add 2 own low),
+            add-mul (h * 2 ^ own) l (2 ^ a.low),
+            mul_assoc h (2 ^ own) (2 ^ a.low),
+            ap (λ n. h * n) (e ∙ pow-add 2 own a.low),
           ))
 
   empty_row : (h : ℕ) → ((t : ℕ) → t < rows → placed from words (h * rows + t) ≡ 0) → row_at h ≡ field.zero
-  empty_row h q = row_value h (λ t. 0) q ∙ no_words low block vs (λ t. 0) (λ t. refl)
+  empty_row h q = row_value h (λ t. 0) q ∙ no_words a.low a.block.now vs (λ t. 0) (λ t. refl)
 
-  value_is : part_value i high low from point words block
-      ≡ field.mul (eq_at field us row) (part_value (i + (high - own)) own low start point words block)
+  value_is : part_value a piece ≡ field.mul (eq_at field us row) (value_at field vs (sums (placed start words)))
   value_is =
-      ap (λ zs. value_at field zs (block_sum low block (placed from words))) (sym (elements_cut point i is.own_fits)) ∙ sym (value_split field_ring us vs _)
+      ap (λ zs. value_at field zs (sums (placed from words))) (sym whole) ∙ sym (value_split field_ring us vs _)
       ∙ value_row field_ring us row_at row row_there (λ h l. empty_row h (λ t b. early h t l b)) (λ h l. empty_row h (λ t b. late h t l))
       ∙ ap (field.mul (eq_at field us row)) (row_value row (placed start words) (λ t b. own_row t))
 
-  pub in_row : {eq sum x : Element} → Holds eq (eq_at field (elements (rest i point) 0 (high - own)) row)
-      → Holds sum (part_value (i + (high - own)) own low start point words block) → Holds x (field.mul (from_words eq) (from_words sum))
-      → Holds x (part_value i high low from point words block)
-  in_row d-eq d-sum d = rw value_is (rw (read_as _ d-eq, read_as _ d-sum, rest_elements i point (high - own)) at d)
+  -- the last coordinates' part is what was left
+  own_value : {rest : SplitPoint} → After before a rest → blocks_value rest (λ y. base (placed start words y))
+      ≡ value_at field vs (sums (placed start words))
+  own_value r = rw (after_value a r (λ y. base (placed start words y)), own_left) refl
+
+  pub in_row : {rest : SplitPoint} → After before a rest → {eq sum x : Element} → Holds eq (eq_at field us row)
+      → Holds sum (blocks_value rest (λ y. base (placed start words y))) → Holds x (field.mul (from_words eq) (from_words sum))
+      → Holds x (part_value a piece)
+  in_row r d-eq d-sum d = rw value_is (rw (read_as _ d-eq, read_as _ d-sum, own_value r) at d)

@@ -1,9 +1,10 @@
 -- The sums by blocks of scale·eq make scale times the value, and with a scale of one the value. Assumes nothing.
 use mathlib.Core.Path.{◌≡◌, ap}
-use Prim.Native.Nat.{ℕ, ◌+◌, ◌-◌, ◌≤◌}
+use Prim.Native.Nat.{ℕ, ◌+◌, ◌-◌, ◌^◌, ◌≤◌}
 use native.Mathlib.Nat.{zero-add}
 use native.Mathlib.Omega.{arith}
 use mathlib.Core.List.{List, ◌++◌}
+use lib.ListN.{length}
 use Rattle.algebra.proofs.Ring.{one_mul}
 use Rattle.multilinear.specs.Values.{value_at}
 use Rattle.multilinear.proofs.Values.{value_ext}
@@ -15,71 +16,54 @@ use Rattle.table.specs.Table.{element_at, elements, placed}
 use Rattle.table.proofs.Laws.{elements_length}
 use Rattle.table.proofs.Parts.{elements_cut}
 use Rattle.table.proofs.Placed.{placed_zero}
-use Rattle.point.specs.Coordinates.{Coordinates}
-use Rattle.weigh.specs.Weigh.{block_variables, NearlyWhole, WholeExt, Block, Parts, PartsExt, block_sum, block_sum_ext}
-use Rattle.weigh.specs.Weigh.{words_value, elements_value, part_value, part_value_ext}
-use Rattle.weigh.proofs.Splitting.{against}
+use Rattle.point.specs.declared.Point.{Point}
+use Rattle.weigh.specs.declared.blocks.SplitPoint.{SplitPoint}
+use Rattle.weigh.specs.Entries.{WholeTable, word_at, table_value}
+use Rattle.weigh.specs.Weigh.{NearlyWhole, Block, block_sum}
+use Rattle.weigh.specs.Blocks.{Cut, blocks_value}
 
-module _ {k low : ℕ} (there : low ≤ k) where
-  together : k - low + low ≡ k
-  together = omega arith
+module _ {k low : ℕ} (there : low ≤ k) {point block : List ℕ} {s : Ext} (b : Block (k - low) low point s block) where
+  abbrev us : List Ext
+  us = elements point 0 (k - low)
 
-  from_first : 0 + (k - low) + low ≡ k
-  from_first = omega arith
+  abbrev vs : List Ext
+  vs = elements point (k - low) low
 
-  pub coordinates : {point : List ℕ} → Coordinates k point → Coordinates (k - low + low) point
-  coordinates c = rw together c
+  whole : us ++ vs ≡ elements point 0 k
+  whole = rw zero-add at (elements_cut point 0 there)
 
-  module _ {point block : List ℕ} {s : Ext} (b : Block (k - low) low point s block) where
-    module _ (small : low ≤ block_variables) (c : Coordinates k point) where
-      pub word_parts : {words : List ℕ} → NearlyWhole k words → Parts 0 (k - low) low 0 point words block
-      word_parts r =
-          record {
-            point_is = rw from_first c;
-            fits = rw together (omega (arith, r.fits));
-            words_below = r.below;
-            small = small;
-            room = b.room;
-            below = b.below;
-          }
+  pub weighed : (f : ℕ → Ext) → value_at field us (block_sum low block f) ≡ field.mul s (value_at field (elements point 0 k) f)
+  unfolding block_sum
+  weighed f =
+      rw whole at
+      (rw (elements_length point (k - low) low) at (value_blocks field_ring us vs s (element_at block) f))
+      b.holds
 
-      pub element_parts : {ws : List ℕ} → WholeExt k ws → PartsExt 0 (k - low) low point ws block
-      element_parts r =
-          record { point_is = rw from_first c; entries_are = rw together r; small = small; room = b.room; below = b.below }
+module _ (point : Point) {low : ℕ} (there : low ≤ point.count) {block : List ℕ} {split : SplitPoint} (cut : Cut point low block split) where
+  all : split.high.count + split.low ≡ point.count
+  all = omega (arith, cut.count, cut.low)
 
-    abbrev us : List Ext
-    us = elements point 0 (k - low)
+  pub words_fit : {words : List ℕ} → NearlyWhole point.count words → 0 + length words ≤ 2 ^ (split.high.count + split.low)
+  words_fit w = rw all (omega (arith, w.fits))
 
-    abbrev vs : List Ext
-    vs = elements point (k - low) low
+  pub entries_whole : {ws : List ℕ} → WholeTable 4 point.count ws → WholeTable 4 (split.high.count + split.low) ws
+  entries_whole w = rw all w
 
-    whole : us ++ vs ≡ elements point 0 k
-    whole = rw zero-add at (elements_cut point 0 there)
+  module _ {s : Ext} (b : Block (point.count - low) low point.words.now s block) where
+    weighed_rows : (f : ℕ → Ext) → blocks_value split f ≡ field.mul s (value_at field (elements point.words.now 0 point.count) f)
+    weighed_rows f = rw (cut.words, cut.count, cut.low, cut.block) (weighed there b f)
 
-    weighed : (f : ℕ → Ext) → value_at field us (against low block f) ≡ field.mul s (value_at field (elements point 0 k) f)
-    weighed f =
-        rw whole at
-        (rw (elements_length point (k - low) low) at (value_blocks field_ring us vs s (element_at block) f))
-        b.holds
-
-    -- for the words of any rows
-    pub weighed_words : (word : ℕ → ℕ)
-        → value_at field us (block_sum low block word) ≡ field.mul s (value_at field (elements point 0 k) (λ y. base (word y)))
-    unfolding block_sum
-    weighed_words word = weighed (λ y. base (word y))
-
-    pub weighed_row : (words : List ℕ) {x : Element} → Holds x (part_value 0 (k - low) low 0 point words block)
-        → Holds x (field.mul s (words_value 0 k point words))
-    weighed_row words d =
+    pub weighed_words : (words : List ℕ) {x : Element} → Holds x (blocks_value split (λ y. base (placed 0 words y)))
+        → Holds x (field.mul s (table_value word_at point words))
+    weighed_words words d =
         rw (
-          weighed_words (placed 0 words),
-          value_ext field_ring (elements point 0 k) _ _ (λ y c. ap base (placed_zero words y)),
+          weighed_rows (λ y. base (placed 0 words y)),
+          value_ext field_ring (elements point.words.now 0 point.count) _ _ (λ y c. ap base (placed_zero words y)),
         ) at d
 
-    pub weighed_elements : (ws : List ℕ) {x : Element} → Holds x (part_value_ext 0 (k - low) low point ws block)
-        → Holds x (field.mul s (elements_value 0 k point ws))
-    unfolding block_sum_ext
-    weighed_elements ws d = rw (weighed (element_at ws)) at d
+    pub weighed_elements : (ws : List ℕ) {x : Element} → Holds x (blocks_value split (element_at ws))
+        → Holds x (field.mul s (table_value element_at point ws))
+    weighed_elements ws d = rw (weighed_rows (element_at ws)) at d
 
 pub unscaled : (one : Element) (v : Ext) {x : Element} → Holds one field.one → Holds x (field.mul (from_words one) v) → Holds x v
 unscaled one v h d = rw (read_as _ h, one_mul field_ring v) at d

@@ -1,6 +1,6 @@
 -- What `part`, `trimmed` and `halves` lend their calls, and what they give. Assumes nothing.
 use mathlib.Core.Path.{◌≡◌, sym, ap, ap₂, ◌∙◌}
-use Prim.Native.Nat.{ℕ, min, ◌+◌, ◌-◌, ◌*◌, ◌^◌, ◌≤◌}
+use Prim.Native.Nat.{ℕ, ◌+◌, ◌-◌, ◌*◌, ◌^◌, ◌≤◌}
 use native.Mathlib.Nat.{zero-add}
 use native.Mathlib.Omega.{arith}
 use mathlib.Core.List.{List}
@@ -16,122 +16,90 @@ use Rattle.multilinear.proofs.Values.{value_ext, value_none}
 use Rattle.field.specs.Field.{p, p_pos, Ext, field, base, from_words, Holds}
 use Rattle.field.specs.declared.Element.{Element}
 use Rattle.field.proofs.Laws.{field_ring}
-use Rattle.table.specs.Table.{get_at, element_at, elements, placed}
-use Rattle.table.proofs.Parts.{after, after_length, after_below, get_lent}
-use Rattle.table.proofs.Placed.{absent, left_over, placed_before, placed_word, placed_after, placed_none, placed_low, placed_high}
+use Rattle.table.specs.Table.{element_at}
+use Rattle.table.proofs.Parts.{get_lent}
+use Rattle.table.proofs.Placed.{absent, placed_before, placed_word, placed_after, placed_none}
 use Rattle.dots.specs.Dots.{Dots}
-use Rattle.weigh.specs.Weigh.{block_variables, Parts, block_sum, part_value}
-use Rattle.weigh.proofs.Splitting.{one_block, twice, fewer, joined}
+use Rattle.point.specs.Points.{coordinates}
+use Rattle.weigh.specs.declared.blocks.Piece.{Piece}
+use Rattle.weigh.specs.declared.blocks.SplitPoint.{SplitPoint}
+use Rattle.weigh.specs.Weigh.{block_variables, block_sum}
+use Rattle.weigh.specs.Blocks.{Fits, After, Halves, word_of, part_value}
+use Rattle.weigh.proofs.Splitting.{one_block, twice, joined}
 
 -- no row has a word
 pub no_words : (low : ℕ) (block : List ℕ) (zs : List Ext) (word : ℕ → ℕ) → ((y : ℕ) → word y ≡ 0)
-    → value_at field zs (block_sum low block word) ≡ field.zero
+    → value_at field zs (block_sum low block (λ y. base (word y))) ≡ field.zero
 unfolding block_sum
 no_words low block zs word e =
     value_ext field_ring zs _ _
     (λ h b. sum_ext field_ring (2 ^ low) _ _ (λ l c. absent (element_at block l) (e _)) ∙ sum_none field_ring (2 ^ low))
     ∙ value_none field_ring zs
 
--- the smaller of two numbers as a difference
-less : (a b n : ℕ) → n ≡ min a b → n ≡ a - (a - b)
-less a b n e = omega (arith, e)
+module _ (a : SplitPoint) (piece : Piece) where
+  abbrev words : List ℕ
+  words = piece.words.now
 
-module _ {point words block : List ℕ} {i high low from : ℕ} (parts : Parts i high low from point words block) where
   -- no word is there
-  pub nothing : length words ≡ 0 → {x : Element} → Holds x field.zero
-      → Holds x (part_value i high low from point words block)
-  nothing e d = rw (no_words low block (elements point i high) (placed from words) (placed_none from words e)) d
+  pub nothing : length words ≡ 0 → {x : Element} → Holds x field.zero → Holds x (part_value a piece)
+  nothing e d = rw (no_words a.low a.block.now (coordinates a.high) (word_of piece) (placed_none piece.from words e)) d
 
-  -- no coordinate is left: a weight for each word that is there
-  module _ (none : high ≡ 0) where
-    pub few_words : from + length words ≤ 2 ^ low
-    few_words = rw (none, zero-add) at parts.fits
+  module _ (fits : Fits a piece) where
+    -- no coordinate is left: a weight for each word that is there
+    module _ (none : a.high.count ≡ 0) where
+      few_words : piece.from + length words ≤ 2 ^ a.low
+      few_words = rw (none, zero-add) at fits
 
-    pub few : from + length words ≤ 2 ^ block_variables
-    few = omega (arith, few_words, pow_mono parts.small)
+      few : piece.from + length words ≤ 2 ^ block_variables
+      few = omega (arith, few_words, pow_mono a.summed.small)
 
-    abbrev weights : List ℕ
-    weights = take (4 * from + 4 * length words - 4 * from) (drop (4 * from) block)
+      pub weights_there : 4 * piece.from + 4 * length words ≤ length a.block.now
+      weights_there = omega (arith, few_words, a.summed.room.enough)
 
-    weights_are : weights ≡ take (4 * length words) (drop (4 * from) block)
-    weights_are =
-        let q : 4 * from + 4 * length words - 4 * from ≡ 4 * length words = omega arith in
-        ap (λ n. take n (drop (4 * from) block)) q
+      abbrev weights : List ℕ
+      weights = take (4 * length words) (drop (4 * piece.from) a.block.now)
 
-    weights_length : length weights ≡ 4 * length words
-    weights_length =
-        ap length weights_are
-        ∙ length-take-le (4 * length words) (drop (4 * from) block) (omega (arith, few_words, parts.room, length-drop (4 * from) block))
+      pub dots : Dots weights words
+      dots =
+          record {
+            size = length-take-le (4 * length words) (drop (4 * piece.from) a.block.now)
+                (omega (arith, weights_there, length-drop (4 * piece.from) a.block.now));
+            few = omega (arith, few);
+            weights_below = unreduced_take p p_pos (4 * length words) _ (unreduced_drop p p_pos (4 * piece.from) a.block.now a.summed.room.below);
+            words_below = piece.below;
+          }
 
-    pub dots : Dots weights words
-    dots =
-        record {
-          size = weights_length;
-          few = omega (arith, few);
-          weights_below = unreduced_take p p_pos (4 * from + 4 * length words - 4 * from) _
-              (unreduced_drop p p_pos (4 * from) block parts.below);
-          words_below = parts.words_below;
-        }
+      abbrev product : ℕ → Ext
+      product y = field.mul (element_at a.block.now y) (base (word_of piece y))
 
-    abbrev product : ℕ → Ext
-    product y = field.mul (element_at block y) (base (placed from words y))
+      all_rows : sum_to field (length words) (λ y. field.mul (element_at weights y) (base (get_or words y 0)))
+          ≡ sum_to field (2 ^ a.low) product
+      all_rows =
+          sum_ext field_ring (length words) _ _
+          (λ y b. ap₂ (λ e w. field.mul (from_words e) (base w))
+          (get_lent piece.from (length words) y a.block.now b) (sym (placed_word piece.from words y)))
+          ∙ sym
+          (sum_middle field_ring (2 ^ a.low) piece.from (length words) product few_words
+          (λ y b. absent (element_at a.block.now y) (placed_before piece.from words y b))
+          (λ y b. absent (element_at a.block.now y) (placed_after piece.from words y b)))
 
-    all_rows : sum_to field (length words) (λ y. field.mul (element_at weights y) (base (get_or words y 0))) ≡ sum_to field (2 ^ low) product
-    all_rows =
-        sum_ext field_ring (length words) _ _
-        (λ y b. ap₂ (λ e w. field.mul (from_words e) (base w))
-        (ap (λ ws. get_at ws y) weights_are ∙ get_lent from (length words) y block b) (sym (placed_word from words y)))
-        ∙ sym
-        (sum_middle field_ring (2 ^ low) from (length words) product few_words
-        (λ y b. absent (element_at block y) (placed_before from words y b))
-        (λ y b. absent (element_at block y) (placed_after from words y b)))
+      pub dotted : {x : Element} → Holds x (sum_to field (length words) (λ y. field.mul (element_at weights y) (base (get_or words y 0))))
+          → Holds x (part_value a piece)
+      dotted d = one_block a (λ y. base (word_of piece y)) none (rw all_rows at d)
 
-    pub dotted : {x : Element} → Holds x (sum_to field (length words) (λ y. field.mul (element_at weights y) (base (get_or words y 0))))
-        → Holds x (part_value i high low from point words block)
-    unfolding block_sum
-    dotted d = one_block point block i high low (λ y. base (placed from words y)) none (rw all_rows at d)
+    -- the words of the halves
+    module _ (left : a.high.count ≡ 0 → ⊥) {rest : SplitPoint} (is : After 1 a rest) {half : ℕ} (e : half ≡ 2 ^ (a.high.count - 1 + a.low))
+        {low high : Piece} (parts : Halves half piece low high) where
+      pub low_fits : Fits rest low
+      low_fits = rw (is.high.count, is.low, sym e) parts.low_fits
 
-  -- the words of the halves, the first `cut` of them in the low half, where they stand from row `start` on
-  module _ (left : high ≡ 0 → ⊥) (half : ℕ) (e : half ≡ 2 ^ (high - 1 + low)) (start cut : ℕ) (s : start ≡ min from half)
-      (c : cut ≡ min (length words) (half - start)) where
-    cut_there : cut ≤ length words
-    cut_there = omega (arith, c)
+      pub high_fits : Fits rest high
+      high_fits = rw (is.high.count, is.low, sym e) (omega (arith, parts.high_fits, fits, twice a left, e))
 
-    pub low_parts : Parts (i + 1) (high - 1) low start point (take cut words) block
-    low_parts =
-        let l : length (take cut words) ≡ cut = length-take-le cut words cut_there in
-        record {
-          point_is = fewer point block i high low left parts.point_is;
-          fits = omega (arith, e, l, s, c);
-          words_below = unreduced_take p p_pos cut words parts.words_below;
-          small = parts.small;
-          room = parts.room;
-          below = parts.below;
-        }
-
-    pub high_parts : Parts (i + 1) (high - 1) low (from - start) point (after cut words) block
-    high_parts =
-        let t = twice point block i high low left in
-        let o : from + length words ≤ start + cut + half = omega (arith, e, s, c, t, parts.fits) in
-        record {
-          point_is = fewer point block i high low left parts.point_is;
-          fits = rw (after_length cut words, sym e) (left_over from (length words) start cut (omega (arith, s)) cut_there o);
-          words_below = after_below cut words parts.words_below;
-          small = parts.small;
-          room = parts.room;
-          below = parts.below;
-        }
-
-    pub words_joined : {at0 at1 r x : Element}
-        → Holds at0 (part_value (i + 1) (high - 1) low start point (take cut words) block)
-        → Holds at1 (part_value (i + 1) (high - 1) low (from - start) point (after cut words) block)
-        → Holds r (element_at point i) → Holds x (line field (from_words at0) (from_words at1) (from_words r))
-        → Holds x (part_value i high low from point words block)
-    unfolding block_sum
-    words_joined =
-        let s' = less from half start s in
-        let c' = less (length words) (half - start) cut c in
-        joined point block i high low left (λ y. base (placed from words y)) (λ y. base (placed start (take cut words) y))
-        (λ y. base (placed (from - start) (after cut words) y))
-        (λ y b. ap base (placed_low half from words start cut s' c' y (rw e b)))
-        (λ y b. ap base (placed_high half from words start cut s' c' y ∙ ap (λ n. placed from words (n + y)) e))
+      pub words_joined : {at0 at1 r x : Element} → Holds at0 (part_value rest low) → Holds at1 (part_value rest high)
+          → Holds r (element_at a.high.words.now 0) → Holds x (line field (from_words at0) (from_words at1) (from_words r))
+          → Holds x (part_value a piece)
+      words_joined =
+          joined a left is (λ y. base (word_of piece y)) (λ y. base (word_of low y)) (λ y. base (word_of high y))
+          (λ y b. ap base (parts.low_is y (rw e b)))
+          (λ y b. ap base (parts.high_is y ∙ ap (λ n. word_of piece (n + y)) e))

@@ -5,10 +5,13 @@ use lib.Seq.{get_or-take}
 use Rattle.algebra.specs.Words.{unreduced}
 use Rattle.multilinear.specs.Values.{value_at}
 use Rattle.field.specs.Field.{p, Ext, field, base, from_words}
-use Rattle.table.specs.Table.{element_at, elements}
+use Rattle.table.specs.Table.{element_at}
 use Rattle.table.proofs.Parts.{after, after_word, rest_get, get_take}
+use Rattle.point.specs.declared.Point.{Point}
+use Rattle.point.specs.Points.{coordinates}
 
 -- an entry for each row of k coordinates, of so many words each
+-- A clause: it is of a lent table and of the count of coordinates together.
 pub record WholeTable (width k : ℕ) (ws : List ℕ) : Type 0 where
   pub count : length ws ≡ width * 2 ^ k
   pub below : unreduced p ws ≡ false
@@ -22,9 +25,9 @@ pub record Entry (width y : ℕ) (ws : List ℕ) : Type 0 where
 abbrev pub word_at : List ℕ → ℕ → Ext
 word_at ws y = base (get_or ws y 0)
 
--- the value of a table at the n coordinates from i on
-abbrev pub table_value : (List ℕ → ℕ → Ext) → ℕ → ℕ → List ℕ → List ℕ → Ext
-table_value entry i n point ws = value_at field (elements point i n) (entry ws)
+-- the value of a table at a point
+abbrev pub table_value : (List ℕ → ℕ → Ext) → Point → List ℕ → Ext
+table_value entry point ws = value_at field (coordinates point) (entry ws)
 
 -- the first entries of a table are those of its first words, and the others those of the words after them
 pub record Parted (width : ℕ) (entry : List ℕ → ℕ → Ext) : Type 0 where

@@ -14,7 +14,6 @@ use Rattle.field.proofs.Laws.{field_ring, read_as}
 use Rattle.table.specs.Table.{elements, table_words}
 use Rattle.table.proofs.Laws.{table_ext}
 use Rattle.table.proofs.Parts.{both_parts}
-use Rattle.point.specs.Coordinates.{Coordinates}
 use Rattle.work.specs.Work.{first, others, work_words}
 use Rattle.work.specs.Inner.{BothTables}
 
@@ -25,7 +24,7 @@ module _ (k : ℕ) (work : List ℕ) (n0 : ℕ) (sized : BothTables k work) (row
   pub lent : length (take (4 * n0) work) ≡ 4 * n0
   lent = length-take-le (4 * n0) work within
 
-  module _ (point : List ℕ) (scale : Element) (is : Coordinates k point) where
+  module _ (point : List ℕ) (scale : Element) where
     module _ (x : List ℕ) (l : length x ≡ length (take (4 * n0) work)) where
       abbrev now : List ℕ
       now = x ++ drop (4 * n0) work

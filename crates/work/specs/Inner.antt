@@ -10,7 +10,8 @@ use Rattle.work.specs.Work.{first, others}
 pub record BothTables (k : ℕ) (work : List ℕ) : Type 0 where
   pub size : length work ≡ 4 * (2 ^ first k + 2 ^ others k)
 
--- work holds two tables of k coordinates, all reduced
+-- work holds two tables of k coordinates, all reduced. A clause and no type: callers keep the buffer whole, as `fill` leaves it, and hand it
+-- on as they got it.
 pub record Tables (k : ℕ) (work : List ℕ) : Type 0 where
   pub few : k ≤ most
   pub size : length work ≡ 4 * (2 ^ first k + 2 ^ others k)

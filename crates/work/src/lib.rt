@@ -7,13 +7,13 @@
 ghost use Rattle.std.specs.Prelude.{◌≡◌, ◌+◌, ◌^◌, ◌<◌};
 ghost use Rattle.algebra.specs.Ring.{Ops};
 ghost use Rattle.field.specs.Field.{field, from_words, Reduced, Holds};
-ghost use Rattle.point.specs.Coordinates.{Coordinates};
 ghost use Rattle.work.specs.Work.{work_differs, work_words};
 ghost use Rattle.work.specs.Inner.{BothTables, Tables, Apart, row_weight, accumulated, Open, Stretch, gained};
 
 use field::Element;
 use multiplier::Multiplier;
-use point::equality::BitOrder;
+use point::Point;
+use point::equality::{self, BitOrder};
 
 // 4: work has not just the words of both tables. No slice has as many as 2^62 elements.
 pub fn differs(work: &[u32], k: usize) -> bool
@@ -28,14 +28,19 @@ pub fn differs(work: &[u32], k: usize) -> bool
 }
 
 // work becomes both tables of the point; the second is written from the middle of the buffer.
-pub fn fill(work: &mut [u32], point: &[u32], k: usize, scale: Element)
-    requires { (Coordinates k point.now × Reduced scale) × BothTables k work.old }
-    ensures { work.new ≡ work_words k point.now (from_words scale) }
+pub fn fill(work: &mut [u32], point: Point, scale: Element)
+    requires { Reduced scale × BothTables point.count work.old }
+    ensures { work.new ≡ work_words point.entry.count point.entry.words.now (from_words scale) }
 {
-    let first = k / 2;
+    let first = point.count / 2;
     let a = 4 * table::rows(first);
-    point::equality::fill(&mut work[..a], point, first, BitOrder::Msb, scale);
-    point::equality::fill_last(&mut work[a..], point, first, k - first, Element::one());
+    equality::fill(&mut work[..a], point.first(first), BitOrder::Msb, scale);
+    equality::fill(
+        &mut work[a..],
+        point.after(first),
+        BitOrder::Msb,
+        Element::one(),
+    );
 }
 
 // The weight of row y: eq0[y / n1] eq1[y % n1].
@@ -55,7 +60,7 @@ pub fn accumulate(work: &[u32], k: usize, given: Element, out: &mut [u32])
 {
     let (eq0, eq1) = tables(work, k);
     let block = eq1.len();
-    // By number: an element is four words of the buffer, read by its place as in every table.
+    // By number: nothing is known of a block that `chunks_exact_mut` lent.
     for h in 0..eq0.len() / 4 {
         let seed = given.mul(table::read(eq0, h));
         gain(&mut out[h * block..(h + 1) * block], eq1, seed);

@@ -1,5 +1,5 @@
 -- `dots::dot_ext` meets its contract. Assumes nothing.
-use Rattle.std.proofs.Common.{◌≡◌, arith}
+use Rattle.std.proofs.Common.{◌≡◌, ◌/◌, length, arith}
 use Rattle.dots.proofs.Pairing.{start, room, turn, finish}
 use Rattle.dots.proofs.dot_ext.Goals as goal
 
@@ -18,5 +18,5 @@ settle-requires c = room _ _ _ (omega arith) c.loop-y.invariant
 
 pub returns : goal.returns
 returns c =
-    let q : c.loop-y.y ≡ c.args.n = omega arith in
+    let q : c.loop-y.y ≡ length c.args.entries.now / 4 = omega arith in
     rw c.settle.ensures (rw q at (finish _ _ _ c.loop-y.invariant))

@@ -3,4 +3,4 @@ use Rattle.fixing.specs.Inner.{Combined}
 use Rattle.fixing.proofs.combine.Given as goal
 
 abbrev pub invariant-loop-i : goal.invariant-loop-i
-invariant-loop-i g l = Combined (goal.P-post g l.pair) (goal.F-post g l.make) l.from l.i l.fn.entries l.entries
+invariant-loop-i g l = Combined (goal.P-post g l.pair) (goal.F-post g l.make) 0 l.i l.fn.entries l.entries

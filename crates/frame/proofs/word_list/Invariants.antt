@@ -1,7 +1,6 @@
--- The words before i are there. Assumes nothing.
-use Rattle.std.proofs.Common.{◌≡◌, ◌≤◌}
-use Rattle.frame.specs.Hex.{words_at}
+-- The words of the bytes that are left are still to come. Assumes nothing.
+use Rattle.frame.proofs.Reading.{Read}
 use Rattle.frame.proofs.word_list.Given as goal
 
-abbrev pub invariant-loop-i : goal.invariant-loop-i
-invariant-loop-i l = (l.i ≤ l.count) × (l.words ≡ words_at l.i l.bytes 2)
+abbrev pub invariant-loop-four : goal.invariant-loop-four
+invariant-loop-four l = Read l.count l.bytes l.words l.four-iterator.rest.now l.four-iterator.size

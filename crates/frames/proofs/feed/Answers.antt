@@ -5,10 +5,10 @@ use Rattle.frames.proofs.Keeping.{used_fits, hands}
 use Rattle.frames.proofs.feed.Goals as goal
 
 pub slice_bounds-add-end : goal.slice_bounds-add-end
-slice_bounds-add-end c = omega (arith, c.rows-used.ensures, used_fits c.requires.ready)
+slice_bounds-add-end c = omega (arith, c.places-used.ensures, used_fits c.requires.ready)
 
 pub slice_bounds-add-end-2 : goal.slice_bounds-add-end-2
-slice_bounds-add-end-2 c = sym (length-take-le _ _ (omega (arith, c.rows-used.ensures, used_fits c.requires.ready)))
+slice_bounds-add-end-2 c = sym (length-take-le _ _ (omega (arith, c.places-used.ensures, used_fits c.requires.ready)))
 
 pub add-requires : goal.add-requires
-add-requires c = rw c.rows-used.ensures (hands c.requires)
+add-requires c = rw c.places-used.ensures (hands c.requires)

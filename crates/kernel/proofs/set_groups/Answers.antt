@@ -1,6 +1,6 @@
 -- An element more, and what is multiplied by 2³² and divided by it. Assumes nothing.
 use Rattle.std.proofs.Common.{◌≡◌, ◌+◌, ◌*◌, ◌<◌, length, get_or, ap, ◌∙◌, arith}
-use Rattle.table.specs.Table.{table_words}
+use Rattle.table.specs.Table.{entries, table_words}
 use Rattle.table.proofs.Writing.{turn, finish}
 use Rattle.kernel.proofs.Weighing.{raised_weights, weighed_place, place_there, lowered_again}
 use Rattle.kernel.proofs.set_groups.Goals as goal
@@ -24,6 +24,6 @@ loop-i-preserved g c =
 
 pub returns : goal.returns
 returns g c =
-    let q : c.loop-i.i ≡ c.args.n = omega arith in
+    let q : c.loop-i.i ≡ entries c.args.out.now = omega arith in
     finish _ _ (rw q at c.loop-i.invariant.1) c.requires.groups.1
     ∙ ap (table_words _) (λ j i. lowered_again _ _ _ (λ t. get_or c.args.words.now (g.row.N * i + t) 0) c.raised-raised.ensures j)

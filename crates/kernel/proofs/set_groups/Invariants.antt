@@ -1,6 +1,7 @@
 -- The first i elements are set. Assumes nothing.
 use Rattle.std.proofs.Common.{◌≤◌}
 use Rattle.field.specs.Field.{field, base}
+use Rattle.table.specs.Table.{entries}
 use Rattle.table.proofs.Writing.{Written}
 use Rattle.lowering.specs.Lowering.{unit_inverse}
 use Rattle.kernel.specs.Kernel.{words_at}
@@ -8,4 +9,4 @@ use Rattle.kernel.proofs.set_groups.Given as goal
 
 abbrev pub invariant-loop-i : goal.invariant-loop-i
 invariant-loop-i g l =
-    (l.i ≤ l.n) × Written (λ i. field.mul (words_at g.row.N l.raised l.words i) (base unit_inverse)) l.i l.fn.out l.out
+    (l.i ≤ entries l.fn.out) × Written (λ i. field.mul (words_at g.row.N l.raised l.words i) (base unit_inverse)) l.i l.fn.out l.out

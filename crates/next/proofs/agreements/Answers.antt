@@ -14,4 +14,4 @@ loop-j-preserved c =
 pub returns : goal.returns
 returns c =
     let z : c.loop-j.j ≡ 0 = omega arith in
-    agreed_finish _ _ _ _ z c.loop-j.invariant
+    rw (← c.requires) (agreed_finish _ _ _ _ z c.loop-j.invariant)

@@ -8,14 +8,24 @@ use Rattle.next.specs.Next.{eval_next_answer}
 use Rattle.next.proofs.Answers.{accepted_next}
 use Rattle.next.proofs.eval_next.Goals as goal
 
+pub of-requires : goal.of-requires
+of-requires c =
+    let h = accepted _ tt c.in_ok-test_pair.ensures in
+    search point-says
+
+pub of-requires-2 : goal.of-requires-2
+of-requires-2 c =
+    let h = accepted _ tt c.in_ok-test_pair.ensures in
+    search point-says
+
 pub next_parts-requires : goal.next_parts-requires
 next_parts-requires c =
     let h = accepted _ tt c.in_ok-test_pair.ensures in
-    search point-says
+    let q : entries c.args.point.now ≡ entries c.args.other.now = search same in
+    rw (c.of.ensures.count, c.of-2.ensures.count) q
 
 pub returns : goal.returns
 unfolding eval_next_answer
 returns c =
-    let h = accepted _ tt c.in_ok-test_pair.ensures in
-    let q : entries c.args.point.now ≡ entries c.args.other.now = search same in
-    rw (← c.in_ok-test_pair.ensures, ← q) (accepted_next 0 refl _ _ c.next_parts.ensures)
+    let e = rw (c.of.ensures.words, c.of.ensures.count, c.of-2.ensures.words, c.of-2.ensures.count) at c.next_parts.ensures in
+    rw (← c.in_ok-test_pair.ensures) (accepted_next 0 refl _ _ e)

@@ -16,13 +16,13 @@ use Rattle.multilinear.specs.Folds.{word_of}
 use Rattle.multilinear.specs.Inner.{own_row, own_weight, own_at}
 use Rattle.field.specs.Field.{Ext, field, base, from_words}
 use Rattle.field.proofs.Laws.{field_ring}
-use Rattle.table.specs.Table.{elements, placed}
 use Rattle.table.specs.Gained.{Gained}
 use Rattle.table.proofs.Gaining.{nothing, gained_as}
 use Rattle.table.proofs.Laws.{elements_length}
 use Rattle.table.proofs.Tests.{reduced_at}
-use Rattle.moved.specs.declared.Terms.{Terms}
-use Rattle.moved.specs.Moved.{Adds}
+use Rattle.point.specs.Points.{coordinates}
+use Rattle.moved.specs.declared.Piece.{Piece}
+use Rattle.moved.specs.Moved.{Adds, table_word}
 use Rattle.piece.specs.declared.own.Stand.{Stand}
 use Rattle.piece.specs.Inner.{own_by, Apart, apart, Stands, row_by}
 
@@ -39,55 +39,57 @@ pub weight_none : {weight : Weight} (zs : List Ext) (scale : Ext) → (weight �
 weight_none zs scale (inl e) = rw e
 weight_none zs scale (inr e) = rw e
 
-module _ {terms : Terms} {point piece out : List ℕ} {taken : ℕ} (a : Adds terms point taken piece out) where
+-- where the words of a row stand
+stands_at : (side : Side) (row rows inner i : ℕ) (s : Stand) → s ≡ apart side row rows inner
+    → s.start + i * s.stride ≡ word_of side inner rows i row
+stands_at Prefix row rows inner i s e = rw e (omega arith)
+stands_at Suffix row rows inner i s e = rw e (omega arith)
+
+row_is : (side : Side) (row rows inner : ℕ) (s : Stand) → s ≡ apart side row rows inner → s.row ≡ row
+row_is Prefix row rows inner s e = rw e
+row_is Suffix row rows inner s e = rw e
+
+module _ (piece : Piece) where
   abbrev zs : List Ext
-  zs = elements point 0 terms.k
+  zs = coordinates piece.point
 
-  pub none_own : (side : Side) → own_weight field terms.weight zs (from_words terms.scale) ≡ field.zero
-      → Gained 0 terms.inner (own_by side terms point taken piece) out out
+  abbrev inner : ℕ
+  inner = piece.inner
+
+  pub none_own : (side : Side) {out : List ℕ} → Adds piece out → own_weight field piece.weight zs (from_words piece.scale) ≡ field.zero
+      → Gained 0 inner (own_by side piece) out out
   unfolding own_by
-  none_own side e =
-      gained_as _ (nothing 0 terms.inner out (λ y h. reduced_at out a.out_below (0 + y))) (λ y h. sym (no_own side _ _ _ _ _ y e))
+  none_own side {out} a e =
+      gained_as _ (nothing 0 inner out (λ y h. reduced_at out a.out_below (0 + y))) (λ y h. sym (no_own side _ _ _ _ _ y e))
 
-  module _ {row rows : ℕ} (h : row < rows) (r : rows ≡ 2 ^ terms.k) where
-    pub row_there : Apart row rows terms.inner
-    row_there = record { there = h; small = rw r a.small }
+  module _ {row rows : ℕ} (h : row < rows) (r : rows ≡ 2 ^ piece.point.count) where
+    pub row_there : Apart row rows inner
+    row_there = record { there = h; small = rw r piece.fits.small }
 
-    rows_small : rows * terms.inner ≤ 2 ^ 20
-    rows_small = rw r a.small
+    rows_small : rows * inner ≤ 2 ^ 20
+    rows_small = rw r piece.fits.small
 
-    pub stands : (side : Side) → Stands (apart side row rows terms.inner) terms
+    pub stands : (side : Side) → Stands (apart side row rows inner) inner
     stands Prefix =
-        let m : row * terms.inner ≤ rows * terms.inner = mul-le-mul_right terms.inner (omega arith) in
-        let n : 1 * terms.inner ≤ rows * terms.inner = mul-le-mul_right terms.inner (omega arith) in
+        let m : row * inner ≤ rows * inner = mul-le-mul_right inner (omega arith) in
+        let n : 1 * inner ≤ rows * inner = mul-le-mul_right inner (omega arith) in
         record { some = omega arith; near = omega arith; within = omega (arith, m, n, rows_small) }
     stands Suffix =
-        let m : 1 * rows ≤ terms.inner * rows = mul-le-mul_right rows a.some in
-        let c : terms.inner * rows ≡ rows * terms.inner = mul_comm terms.inner rows in
+        let m : 1 * rows ≤ inner * rows = mul-le-mul_right rows piece.fits.some in
+        let c : inner * rows ≡ rows * inner = mul_comm inner rows in
         record { some = omega arith; near = omega (arith, m, c, rows_small); within = omega (arith, m, c, rows_small) }
 
-  -- where the words of a row stand
-  stands_at : (side : Side) (row rows inner i : ℕ) (s : Stand) → s ≡ apart side row rows inner
-      → s.start + i * s.stride ≡ word_of side inner rows i row
-  stands_at Prefix row rows inner i s e = rw e (omega arith)
-  stands_at Suffix row rows inner i s e = rw e (omega arith)
-
-  row_is : (side : Side) (row rows inner : ℕ) (s : Stand) → s ≡ apart side row rows inner → s.row ≡ row
-  row_is Prefix row rows inner s e = rw e
-  row_is Suffix row rows inner s e = rw e
-
   -- the last row, of the next weight
-  pub last_own : (side : Side) {stand : Stand} {rows : ℕ} {w : List ℕ} → terms.weight ≡ Next → rows ≡ 2 ^ terms.k
-      → stand ≡ apart side (rows - 1) rows terms.inner → Gained 0 terms.inner (row_by stand terms point taken piece) out w
-      → Gained 0 terms.inner (own_by side terms point taken piece) out w
+  pub last_own : (side : Side) {stand : Stand} {rows : ℕ} {out w : List ℕ} → piece.weight ≡ Next → rows ≡ 2 ^ piece.point.count
+      → stand ≡ apart side (rows - 1) rows inner → Gained 0 inner (row_by stand piece) out w → Gained 0 inner (own_by side piece) out w
   unfolding row_by own_by own_at
   last_own side {stand} {rows} e r s d =
-      let n : rows ≡ 2 ^ length zs = r ∙ ap (λ m. 2 ^ m) (sym (elements_length point 0 terms.k)) in
+      let n : rows ≡ 2 ^ length zs = r ∙ ap (λ m. 2 ^ m) (sym (elements_length piece.point.words.now 0 piece.point.count)) in
       gained_as _ d
       (λ i h.
-      ap₂ (λ y t. field.mul (field.mul (from_words terms.scale) (eq_at field zs y)) (base (placed taken piece t)))
-      (row_is side (rows - 1) rows terms.inner stand s ∙ ap (λ m. m - 1) n)
-      (stands_at side (rows - 1) rows terms.inner i stand s ∙ ap (λ m. word_of side terms.inner m i (m - 1)) n)
+      ap₂ (λ y t. field.mul (field.mul (from_words piece.scale) (eq_at field zs y)) (base (table_word piece t)))
+      (row_is side (rows - 1) rows inner stand s ∙ ap (λ m. m - 1) n)
+      (stands_at side (rows - 1) rows inner i stand s ∙ ap (λ m. word_of side inner m i (m - 1)) n)
       ∙ ap
-      (λ w. field.mul (own_weight field w zs (from_words terms.scale))
-      (base (placed taken piece (word_of side terms.inner (2 ^ length zs) i (own_row w (2 ^ length zs)))))) (sym e))
+      (λ w. field.mul (own_weight field w zs (from_words piece.scale))
+      (base (table_word piece (word_of side inner (2 ^ length zs) i (own_row w (2 ^ length zs)))))) (sym e))

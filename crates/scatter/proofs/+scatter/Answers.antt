@@ -1,7 +1,6 @@
 -- None, one row, whole rows, and the two halves of the rows. Assumes nothing.
 use Rattle.std.proofs.Common.{refl, arith}
 use Rattle.std.proofs.Math.Nat.{pos_of_ne-zero}
-use Rattle.table.proofs.Parts.{after_length}
 use Rattle.scatter.proofs.Scattering.{no_words, row_scattered, rows_scattered, half_fits, low_scatters, high_scatters, halves_joined}
 use Rattle.scatter.proofs.WholeRows.{two_rows_lem}
 use Rattle.scatter.proofs.+scatter.Goals as goal
@@ -23,7 +22,7 @@ returns-then-words-inner-2 t c =
 pub returns-then-words-inner-3 : goal.returns-then-words-inner-3
 returns-then-words-inner-3 t c =
     rows_scattered c.requires 1 c.if-left-eq1.true c.if-words-inner-3.true c.gain_rows-then-words-inner-3.ensures (λ y h.
-    two_rows_lem c.args.weight c.args.rest.now c.args.words.now _ c.read.ensures c.mul-high.ensures c.sub-low.ensures y)
+    two_rows_lem c.args.weight c.args.rest c.args.words.now _ c.read.ensures c.mul-high.ensures c.sub-low.ensures c.if-left-eq1.true y)
 
 pub overflow_mul-half : goal.overflow_mul-half
 overflow_mul-half t c = omega (arith, half_fits c.requires c.if-left-eq0.false c.rows.ensures)
@@ -31,19 +30,21 @@ overflow_mul-half t c = omega (arith, half_fits c.requires c.if-left-eq0.false c
 pub scatter-requires : goal.scatter-requires
 scatter-requires t c =
     let some = pos_of_ne-zero c.if-left-eq0.false in (
-      omega (arith, c.decreases, after_length 4 c.args.rest.now),
-      low_scatters c.requires c.if-left-eq0.false _ c.rows.ensures _ _ c.min-at0.ensures c.min-cut.ensures c.sub-low.ensures.below,
+      omega (arith, c.decreases, c.after-others.ensures.count),
+      low_scatters c.requires c.if-left-eq0.false _ c.rows.ensures _ _ c.min-at0.ensures c.min-cut.ensures c.after-others.result
+          c.after-others.ensures.words c.after-others.ensures.count c.sub-low.ensures.below,
     )
 
 pub scatter-requires-2 : goal.scatter-requires-2
 scatter-requires-2 t c =
     let some = pos_of_ne-zero c.if-left-eq0.false in (
-      omega (arith, c.decreases, after_length 4 c.args.rest.now),
-      high_scatters c.requires c.if-left-eq0.false _ c.rows.ensures _ _ c.min-at0.ensures c.min-cut.ensures c.mul-high.ensures.below
-          c.scatter.ensures,
+      omega (arith, c.decreases, c.after-others.ensures.count),
+      high_scatters c.requires c.if-left-eq0.false _ c.rows.ensures _ _ c.min-at0.ensures c.min-cut.ensures c.after-others.result
+          c.after-others.ensures.words c.after-others.ensures.count c.mul-high.ensures.below c.scatter.ensures,
     )
 
 pub returns : goal.returns
 returns t c =
-    halves_joined c.requires c.if-left-eq0.false _ c.rows.ensures _ _ c.min-at0.ensures c.min-cut.ensures c.read.ensures c.mul-high.ensures
-    c.sub-low.ensures c.scatter.ensures c.scatter-2.ensures
+    halves_joined c.requires c.if-left-eq0.false _ c.rows.ensures _ _ c.min-at0.ensures c.min-cut.ensures c.after-others.result
+    c.after-others.ensures.words c.after-others.ensures.count c.read.ensures c.mul-high.ensures c.sub-low.ensures
+    c.scatter.ensures c.scatter-2.ensures

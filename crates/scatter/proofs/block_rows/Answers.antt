@@ -8,12 +8,14 @@ use Rattle.scatter.proofs.WholeRows.{all_rows}
 use Rattle.scatter.proofs.block_rows.Goals as goal
 
 pub by_table-requires : goal.by_table-requires
-by_table-requires c = record {
-  weights_there = ap length c.fill.ensures ∙ table_length 32 _;
-  weights_below = ap (unreduced p) c.fill.ensures ∙ unreduced_table 32 _;
-  rows_are = c.requires.rows.0;
-  out_below = c.requires.rows.1;
-}
+by_table-requires c =
+    let table = rw c.requires.five.0 at c.fill.ensures in
+    record {
+      weights_there = ap length table ∙ table_length 32 _;
+      weights_below = ap (unreduced p) table ∙ unreduced_table 32 _;
+      rows_are = c.requires.rows.0;
+      out_below = c.requires.rows.1;
+    }
 
 pub returns : goal.returns
-returns c = all_rows _ _ _ _ _ c.fill.ensures c.by_table.ensures
+returns c = all_rows _ _ _ _ c.args.rest c.requires.five.0 c.fill.ensures c.by_table.ensures

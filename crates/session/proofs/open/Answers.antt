@@ -4,9 +4,9 @@ use Rattle.ledger.specs.Session.{args, open_answer}
 use Rattle.ledger.proofs.Accepted.{opened}
 use Rattle.session.proofs.open.Goals as goal
 
-pub new-requires : goal.new-requires
+pub padded-requires : goal.padded-requires
 unfolding open_answer
-new-requires c =
+padded-requires c =
     let a = c.args in
     let d = opened (args a.n a.side a.weight a.scale a.point.now) a.out.now c.in_ok-test_open.ensures in
     omega (arith, d.count, d.sound.small, d.sound.fits)

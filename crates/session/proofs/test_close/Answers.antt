@@ -22,8 +22,8 @@ returns-in_err-test_ready c =
     let st = state c.args.s.now c.args.out.now in
     grind (arith, refused (ready_tests st) (later st) _ c.in_err-test_ready.ensures)
 
-pub rows-requires : goal.rows-requires
-rows-requires c = (of_ready (state c.args.s.now c.args.out.now) c.in_ok-test_ready.ensures).small
+pub words-requires : goal.words-requires
+words-requires c = (of_ready (state c.args.s.now c.args.out.now) c.in_ok-test_ready.ensures).small
 
 pub returns : goal.returns
 returns c = grind (arith, tests, whole (state c.args.s.now c.args.out.now) c.in_ok-test_ready.ensures)

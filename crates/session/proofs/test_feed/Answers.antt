@@ -25,11 +25,11 @@ returns-in_err-test_ready c =
     let st = state c.args.s.now c.args.out.now in
     grind (arith, refused (ready_tests st) (later st c.args.piece.now) _ c.in_err-test_ready.ensures)
 
-pub rows-requires : goal.rows-requires
-rows-requires c = (of_ready (state c.args.s.now c.args.out.now) c.in_ok-test_ready.ensures).small
+pub words-requires : goal.words-requires
+words-requires c = (of_ready (state c.args.s.now c.args.out.now) c.in_ok-test_ready.ensures).small
 
 pub overflow_sub-left : goal.overflow_sub-left
-overflow_sub-left c = omega (arith, c.rows.ensures, (of_ready (state c.args.s.now c.args.out.now) c.in_ok-test_ready.ensures).room)
+overflow_sub-left c = omega (arith, c.words.ensures, (of_ready (state c.args.s.now c.args.out.now) c.in_ok-test_ready.ensures).room)
 
 pub returns-in_err-refuse_if : goal.returns-in_err-refuse_if
 returns-in_err-refuse_if c = grind (arith, tests, whole (state c.args.s.now c.args.out.now) c.args.piece.now c.in_ok-test_ready.ensures)
@@ -37,5 +37,5 @@ returns-in_err-refuse_if c = grind (arith, tests, whole (state c.args.s.now c.ar
 pub returns : goal.returns
 returns c =
     let room = (of_ready (state c.args.s.now c.args.out.now) c.in_ok-test_ready.ensures).room in
-    let left = left_test _ _ c.args.s.now.taken (length c.args.piece.now) c.rows.ensures room in
+    let left = left_test _ _ c.args.s.now.taken (length c.args.piece.now) c.words.ensures room in
     grind (arith, tests, left, whole (state c.args.s.now c.args.out.now) c.args.piece.now c.in_ok-test_ready.ensures)

@@ -5,5 +5,5 @@ use Rattle.weigh.proofs.small_block_of.Goals as goal
 
 pub filled-requires : goal.filled-requires
 filled-requires c =
-    let m : 2 ^ c.args.low ≤ 2 ^ 2 = pow_mono c.requires.1 in
-    (search rules, (c.requires.0, omega arith))
+    let m : 2 ^ c.args.low ≤ 2 ^ 2 = pow_mono c.requires.2 in
+    (search rules, (c.requires.0, c.requires.1, omega arith))

@@ -1,6 +1,6 @@
--- `weigh::value` meets its contract: by halves alone, or with a scale of one. Assumes nothing.
+-- By halves alone, or with a scale of one. Assumes nothing.
 use Rattle.weigh.proofs.Weighing.{unscaled}
 use Rattle.weigh.proofs.value.Goals as goal
 
-pub returns-else-n-le-BLOCK : goal.returns-else-n-le-BLOCK
-returns-else-n-le-BLOCK c = unscaled _ _ c.one.ensures c.weigh.ensures
+pub returns-else-point-le-BLOCK : goal.returns-else-point-le-BLOCK
+returns-else-point-le-BLOCK g c = unscaled _ _ c.one.ensures c.weigh.ensures

@@ -10,7 +10,7 @@ add-requires c =
     let n = c.args.block.end - c.args.block.start in
     let block : c.gather.new.block ≡ block_at c.args.self.now c.args.block.start n =
     rw (length-take-le n c.args.room.now (omega (arith, c.requires.portion.most_words))) at c.gather.ensures in
-    takes c.requires.cut.0 c.requires.portion block c.requires.sums_value
+    takes c.args.self.now c.requires.portion block c.requires.sums_value
 
 pub returns : goal.returns
 returns c =
@@ -18,4 +18,4 @@ returns c =
     let block : c.gather.new.block ≡ block_at c.args.self.now c.args.block.start n =
     rw (length-take-le n c.args.room.now (omega (arith, c.requires.portion.most_words))) at c.gather.ensures in
     let all : c.args.block.start + n ≡ c.args.block.end = omega arith in
-    rw all at (added c.requires.cut.0 c.requires.portion block c.requires.sums_value c.add.ensures)
+    rw all at (added c.args.self.now c.requires.portion block c.requires.sums_value c.add.ensures)

@@ -10,18 +10,16 @@ use Rattle.byte_fold.proofs.Section.fold.Goals as goal
 
 pub slice_bounds-room-end : goal.slice_bounds-room-end
 slice_bounds-room-end c =
-    omega (arith, sums_fit c.requires.0 c.rows.ensures, ap length c.room-room.ensures ∙ length-replicate {A = ℕ} most_block 0)
+    omega (arith, sums_fit c.args.self.now c.places.ensures, ap length c.zeros-room.ensures ∙ length-replicate {A = ℕ} most_block 0)
 
 pub slice_bounds-sums-end : goal.slice_bounds-sums-end
-slice_bounds-sums-end c = sym (lent c.room-room.ensures (sums_fit c.requires.0 c.rows.ensures))
+slice_bounds-sums-end c = sym (lent c.zeros-room.ensures (sums_fit c.args.self.now c.places.ensures))
 
 pub add_blocks-requires : goal.add_blocks-requires
-add_blocks-requires c = (
-  c.requires.0,
-  ap (take (4 * c.rows.result)) c.room-room.ensures
-      ∙ take-replicate (4 * c.rows.result) most_block 0 (sums_fit c.requires.0 c.rows.ensures)
-      ∙ ap (λ m. replicate (4 * m) 0) c.rows.ensures,
-)
+add_blocks-requires c =
+    ap (take (4 * c.places.result)) c.zeros-room.ensures
+    ∙ take-replicate (4 * c.places.result) most_block 0 (sums_fit c.args.self.now c.places.ensures)
+    ∙ ap (λ m. replicate (4 * m) 0) c.places.ensures
 
 pub encode-requires : goal.encode-requires
-encode-requires c = omega (arith, c.requires.1, sums_size c.requires.0 (capacity c.args.self.now.plan) c.add_blocks.ensures)
+encode-requires c = omega (arith, c.requires, sums_size c.args.self.now (capacity c.args.self.now.plan) c.add_blocks.ensures)

@@ -1,7 +1,7 @@
 -- `dots::halves::gain` meets its contract. Assumes nothing.
 use Rattle.std.proofs.Common.{rules, get_or}
 use Rattle.dots.specs.Inner.{Grown, at}
-use Rattle.dots.proofs.Arrays.{each_given}
+use Rattle.field.proofs.Mapping.{each_given}
 use Rattle.dots.proofs.halves.gain.Goals as goal
 
 pub returns : goal.returns

@@ -7,13 +7,19 @@ use Rattle.point.specs.Point.{table_answer, equality_out}
 use Rattle.point.proofs.Coordinates.{point-says}
 use Rattle.point.proofs.equality.equality_table.Goals as goal
 
+pub of-requires : goal.of-requires
+unfolding table_answer
+of-requires c =
+    let h = accepted _ tt c.in_ok-test_table.ensures in
+    search point-says
+
 pub fill-requires : goal.fill-requires
 unfolding table_answer
 fill-requires c =
     let h = accepted _ tt c.in_ok-test_table.ensures in
-    search point-says
+    (c.one.ensures.below, rw (c.of.ensures.count) (search point-says))
 
 pub returns-clause-out_after : goal.returns-clause-out_after
 unfolding equality_out
 returns-clause-out_after c =
-    rw (accepted_leaves _ c.in_ok-test_table.ensures) (c.fill.ensures ∙ table_unscaled _ _ _ c.one.ensures)
+    rw (accepted_leaves _ c.in_ok-test_table.ensures) (rw (c.of.ensures.count, c.of.ensures.words) at c.fill.ensures ∙ table_unscaled _ _ _ c.one.ensures)

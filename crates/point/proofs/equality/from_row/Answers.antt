@@ -32,4 +32,4 @@ loop-j-preserved c =
 pub returns : goal.returns
 returns c =
     let q : c.loop-j.j ≡ 0 = omega arith in
-    as_tail _ _ _ _ c.requires.1 (finish tail_climbs _ _ _ _ _ _ c.loop-j.invariant q)
+    as_tail _ _ _ _ c.requires (finish tail_climbs _ _ _ _ _ _ c.loop-j.invariant q)

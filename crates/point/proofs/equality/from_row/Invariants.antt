@@ -5,4 +5,4 @@ use Rattle.point.proofs.Climbing.{Climbing}
 use Rattle.point.proofs.equality.from_row.Given as goal
 
 abbrev pub invariant-loop-j : goal.invariant-loop-j
-invariant-loop-j l = Climbing (tail_by field) l.point l.k l.fn.row l.left l.j l.sum
+invariant-loop-j l = Climbing (tail_by field) l.point.words.now l.point.count l.fn.row l.left l.j l.sum

@@ -3,7 +3,7 @@ use Rattle.point.proofs.Selecting.{start, turn}
 use Rattle.point.proofs.select.selection.Goals as goal
 
 pub loop-j-init : goal.loop-j-init
-loop-j-init c = start _ _ _ c.requires.0 c.one-product.ensures
+loop-j-init c = start _ _ _ c.requires c.one-product.ensures
 
 pub loop-j-preserved : goal.loop-j-preserved
 loop-j-preserved c =

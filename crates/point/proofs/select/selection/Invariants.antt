@@ -3,4 +3,4 @@ use Rattle.point.proofs.Selecting.{Selecting}
 use Rattle.point.proofs.select.selection.Given as goal
 
 abbrev pub invariant-loop-j : goal.invariant-loop-j
-invariant-loop-j l = Selecting l.fn.var l.point l.k l.j l.product l.power
+invariant-loop-j l = Selecting l.fn.var l.point.words.now l.point.count l.j l.product l.power

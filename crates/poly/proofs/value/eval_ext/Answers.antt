@@ -6,8 +6,13 @@ use Rattle.table.proofs.Says.{accepted}
 use Rattle.point.proofs.Coordinates.{point-says}
 use Rattle.poly.proofs.value.eval_ext.Goals as goal
 
-pub value_ext-requires : goal.value_ext-requires
-value_ext-requires c =
-    let fits : length c.args.table.now < 2 ^ 64 = omega arith in
-    let h = accepted _ tt c.in_ok-test_ext.ensures in
+pub of-requires : goal.of-requires
+of-requires c =
+    let h = accepted _ tt c.in_ok-test_table.ensures in
     search point-says
+
+pub value-requires : goal.value-requires
+value-requires c =
+    let fits : length c.args.table.now < 2 ^ 64 = omega arith in
+    let h = accepted _ tt c.in_ok-test_table.ensures in
+    rw c.of.ensures.count (search point-says)

@@ -1,17 +1,21 @@
 -- An element's line more. Assumes nothing.
-use Rattle.std.proofs.Common.{◌≤◌, ◌+◌, length, arith}
-use Rattle.program.specs.Blocks.{most_text}
-use Rattle.program.proofs.Texts.{no_lines, line_more, line_fits}
+use Rattle.std.proofs.Common.{rules}
+use Rattle.program.proofs.Texts.{none_yet, line_more, line_fits, all_there}
 use Rattle.program.proofs.text.put_elements.Goals as goal
 
-pub loop-i-init : goal.loop-i-init
-loop-i-init c = no_lines _ _
+pub loop-element-init : goal.loop-element-init
+loop-element-init c = none_yet c.requires.there (search rules) (search rules)
 
 pub extend-requires : goal.extend-requires
-extend-requires c =
-    let fits : length c.loop-i.text + length c.element_line.result ≤ most_text =
-    line_fits _ _ _ _ c.loop-i-test.true c.requires.there c.requires.room c.loop-i.invariant c.element_line.ensures in
-    (omega arith, fits)
+extend-requires c = (
+  search rules,
+  line_fits c.requires.there c.loop-element.invariant c.in-Some.element.now c.next.new.self.rest.now (search rules) (search rules) (search rules) c.requires.room,
+)
 
-pub loop-i-preserved : goal.loop-i-preserved
-loop-i-preserved c = line_more _ _ _ c.loop-i.invariant c.element_line.ensures c.extend.ensures
+pub loop-element-preserved : goal.loop-element-preserved
+loop-element-preserved c =
+    line_more c.requires.there c.loop-element.invariant c.in-Some.element.now _ (search rules) (search rules) (search rules)
+    c.extend.ensures (search rules)
+
+pub returns : goal.returns
+returns c = all_there c.requires.there c.loop-element.invariant (search rules)

@@ -1,7 +1,7 @@
--- The lines of the elements before i are there. Assumes nothing.
-use Rattle.std.proofs.Common.{◌≡◌, ◌++◌}
-use Rattle.program.specs.Printed.{out_lines}
+-- The lines of the elements that are left are still to come. Assumes nothing.
+use Rattle.program.proofs.Texts.{Left}
 use Rattle.program.proofs.text.put_elements.Given as goal
 
-abbrev pub invariant-loop-i : goal.invariant-loop-i
-invariant-loop-i l = l.text ≡ l.fn.text ++ out_lines l.i l.out
+abbrev pub invariant-loop-element : goal.invariant-loop-element
+invariant-loop-element l =
+    Left l.fn.text l.out l.places l.text l.element-iterator.rest.now l.element-iterator.size

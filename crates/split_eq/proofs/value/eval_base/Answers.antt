@@ -3,8 +3,13 @@ use Rattle.std.proofs.Common.{arith}
 use Rattle.split_eq.proofs.Tested.{base_tested}
 use Rattle.split_eq.proofs.value.eval_base.Goals as goal
 
-pub fill-requires : goal.fill-requires
-fill-requires c = (base_tested _ _ _ _ (omega arith) c.in_ok-of_base.ensures).0
+pub of-requires : goal.of-requires
+of-requires c = (base_tested _ _ _ _ (omega arith) c.in_ok-of_base.ensures).0.0.0
 
-pub scaled_value-requires : goal.scaled_value-requires
-scaled_value-requires c = let told = base_tested _ _ _ _ (omega arith) c.in_ok-of_base.ensures in (told.0.0, told.1)
+pub scaled_value-requires-clause-operands : goal.scaled_value-requires-clause-operands
+scaled_value-requires-clause-operands c =
+    let told = base_tested _ _ _ _ (omega arith) c.in_ok-of_base.ensures in
+    rw c.of.ensures.count (told.0.0.1, told.0.1)
+
+pub scaled_value-requires-clause-whole : goal.scaled_value-requires-clause-whole
+scaled_value-requires-clause-whole c = rw c.of.ensures.count (base_tested _ _ _ _ (omega arith) c.in_ok-of_base.ensures).1

@@ -1,17 +1,15 @@
 -- `split_eq::value::scaled_value` meets its contract. Assumes nothing.
-use Rattle.std.proofs.Common.{arith, rules}
-use Rattle.weigh.proofs.Moved.{some, word_below}
+use Rattle.std.proofs.Common.{rules}
+use lib.Pow.{pow_pos}
+use Rattle.weigh.proofs.FewVariables.{entry_there}
 use Rattle.split_eq.proofs.Scaled.{constant, scaled}
 use Rattle.split_eq.proofs.value.scaled_value.Goals as goal
 
-pub bounds-table-0 : goal.bounds-table-0
-bounds-table-0 c = omega (arith, some c.requires.1)
+pub read-requires : goal.read-requires
+read-requires g c = entry_there c.requires.whole 0 (pow_pos _)
 
-pub from_base-requires : goal.from_base-requires
-from_base-requires c = word_below c.requires.1 0
+pub returns-then-point-eq0-clause-value : goal.returns-then-point-eq0-clause-value
+returns-then-point-eq0-clause-value g c = constant _ _ _ _ c.if-point-eq0.true (search rules)
 
-pub returns-then-n-eq0 : goal.returns-then-n-eq0
-returns-then-n-eq0 c = constant _ _ _ _ c.if-n-eq0.true (search rules)
-
-pub returns : goal.returns
-returns c = scaled _ _ _ _ c.if-n-eq0.false c.weigh.ensures
+pub returns-clause-value : goal.returns-clause-value
+returns-clause-value g c = scaled _ _ _ _ c.if-point-eq0.false c.weigh.ensures

@@ -4,16 +4,16 @@ use Rattle.ward.proofs.Halves.{fits, lent}
 use Rattle.ward.proofs.shifted.fill_tables.Goals as goal
 
 pub slice_bounds-room-end : goal.slice_bounds-room-end
-slice_bounds-room-end c = fits c.requires c.tables_room-room.ensures
+slice_bounds-room-end c = fits c.requires c.zeros-room.ensures
 
 pub slice_bounds-tables-end : goal.slice_bounds-tables-end
-slice_bounds-tables-end c = sym (lent c.requires c.tables_room-room.ensures)
+slice_bounds-tables-end c = sym (lent c.requires c.zeros-room.ensures)
 
 pub fill-requires : goal.fill-requires
 fill-requires c = (
-  (c.requires.point_is, c.requires.scale_is),
-  record { size = lent c.requires c.tables_room-room.ensures ∙ omega (arith, c.requires.room) },
+  c.requires.scale_is,
+  record { size = lent c.requires c.zeros-room.ensures ∙ omega (arith, c.requires.room) },
 )
 
 pub encode-requires : goal.encode-requires
-encode-requires c = omega (arith, c.fill.auto.work ∙ lent c.requires c.tables_room-room.ensures, c.requires.room)
+encode-requires c = omega (arith, c.fill.auto.work ∙ lent c.requires c.zeros-room.ensures, c.requires.room)

@@ -1,4 +1,4 @@
--- `weigh::small::raised` meets its contract. Assumes nothing.
+-- Each turn writes a coordinate. Assumes nothing.
 use Rattle.std.proofs.Common.{◌≡◌, arith}
 use Rattle.field.proofs.Laws.{read_as}
 use Rattle.table.proofs.Writing.{turn}
@@ -10,4 +10,4 @@ loop-j-preserved c =
     turn _ _ _ _ c.loop-j.invariant (omega arith) (rw (read_as _ c.read-r.ensures) at c.mul_base.ensures) c.put.ensures
 
 pub returns : goal.returns
-returns c = let q : c.loop-j.j ≡ c.args.n = omega arith in all_raised (omega arith) (rw q at c.loop-j.invariant)
+returns c = let q : c.loop-j.j ≡ c.args.point.count = omega arith in all_raised (omega arith) (rw q at c.loop-j.invariant)
