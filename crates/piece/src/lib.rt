@@ -20,7 +20,8 @@ use multilinear::{Side, Weight};
 use plan::Plan;
 use point::Point;
 
-// out gains scale weight word at each word's place.
+// out gains scale weight word at each word's place. It stays a call: copied into a caller that goes line by line, it copies the plan more often.
+#[inline(never)]
 pub fn add(plan: Plan, taken: usize, piece: &[u32], out: &mut [u32])
     requires { Takes plan taken piece.now out.old }
     ensures { out.new ≡ gained_by plan taken piece.now out.old }
