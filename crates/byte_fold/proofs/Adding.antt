@@ -98,8 +98,5 @@ module _ (s : Section) where
           sums_are = rw m e;
         }
 
-  pub finish : {at end : ℕ} {sums : List ℕ} → Adding s at sums → end ≡ capacity s.plan → end ≤ at → sums ≡ sums_to s (capacity s.plan)
-  finish {at} a q h = let m : min at (capacity s.plan) ≡ capacity s.plan = omega (arith, q) in rw m at a.sums_are
-
   pub sums_size : (n : ℕ) {sums : List ℕ} → sums ≡ sums_to s n → length sums ≡ 4 * H
   sums_size n e = ap length e ∙ table_length H _

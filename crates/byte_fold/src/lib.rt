@@ -15,7 +15,7 @@ ghost use Rattle.plan.specs.Section.{section_of};
 ghost use Rattle.byte_fold.specs.Takes.{most_held, FillsBytes, Cut};
 
 use multilinear::Side;
-use piece::sections::HELD;
+use piece::HELD;
 use plan::Plan;
 use std::ops::Range;
 
@@ -86,7 +86,7 @@ impl<'a> Section<'a> {
         requires { length out.old ≡ 16 * places self.now.plan }
         ensures { out.new ≡ octets (sums_to self.now (capacity self.now.plan)) }
     {
-        let mut room = table::zeros::<BLOCK>();
+        let mut room = [0u32; BLOCK];
         let sums = &mut room[..4 * self.plan.places()];
         self.add_blocks(sums);
         octets::encode(sums, out);
@@ -100,7 +100,7 @@ impl<'a> Section<'a> {
     {
         let end = self.plan.words();
         let first = self.first_row();
-        let mut room = table::zeros::<BLOCK>();
+        let mut room = [0u32; BLOCK];
         self.add_block(0..first, &mut room, sums);
         for at in (first..end).step_by(BLOCK) {
             self.add_block(at..end.min(at + BLOCK), &mut room, sums);
@@ -127,7 +127,7 @@ impl<'a> Section<'a> {
         let at = block.start;
         let words = &mut room[..block.end - at];
         self.gather(at, words);
-        piece::add(self.plan, at, words, sums);
+        piece::add(&self.plan, at, words, sums);
     }
 
     // Fills block with the section's words from word `at` on.

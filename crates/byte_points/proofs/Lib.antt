@@ -1,3 +1,3 @@
 pub mod Sizes
 pub mod Outcomes
-mod Parts
+mod Room

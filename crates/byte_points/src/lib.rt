@@ -1,7 +1,7 @@
 // The calls on points in bytes: at most 20 coordinates are decoded into an array of the function's own, and the word call does the rest.
 #![tactic(auto)]
 
-ghost use Rattle.std.specs.Prelude.{◌≡◌, ℕ, ◌*◌, ◌≤◌, List, ◌++◌, length, take};
+ghost use Rattle.std.specs.Prelude.{◌≡◌};
 ghost use Rattle.octets.specs.Octets.{words, octets};
 ghost use Rattle.table.specs.Refusals.{answer, outcome, verdict, most};
 ghost use Rattle.point.specs.Point.{vertex_answer as vertex_of_words};
@@ -33,8 +33,8 @@ pub fn eval_next(point: &[u8], other: &[u8], out: &mut [u8]) -> Result<(), Refus
     ensures out_after { out.new ≡ next_out point.now other.now out.old }
 {
     test_next(point, other, out)?;
-    let Parts { carry, done, omega } = next_of(point, other)?;
-    put_parts(out, carry, done, omega);
+    let parts = next_of(point, other)?;
+    octets::encode(&parts.words(), out);
     Ok(())
 }
 
@@ -69,7 +69,7 @@ fn at_vertex(point: &[u8], vertex: usize) -> Result<Element, Refusal>
     requires { Few point.now }
     ensures { outcome result ≡ vertex_of_words (words point.now) vertex }
 {
-    let mut room = table::zeros::<WORDS>();
+    let mut room = [0u32; WORDS];
     point::equality::equality_at_vertex(coordinates(point, &mut room), vertex)
 }
 
@@ -77,8 +77,8 @@ fn next_of(point: &[u8], other: &[u8]) -> Result<Parts, Refusal>
     requires { Few point.now × Few other.now }
     ensures { next_outcome result ≡ next_of_words (words point.now) (words other.now) }
 {
-    let mut room = table::zeros::<WORDS>();
-    let mut other_room = table::zeros::<WORDS>();
+    let mut room = [0u32; WORDS];
+    let mut other_room = [0u32; WORDS];
     next::eval_next(
         coordinates(point, &mut room),
         coordinates(other, &mut other_room),
@@ -93,13 +93,4 @@ pub fn coordinates<'a>(point: &[u8], room: &'a mut [u32; WORDS]) -> &'a [u32]
     let words = &mut room[..point.len() / 4];
     octets::decode(point, 0, words);
     words
-}
-
-fn put_parts(out: &mut [u8], carry: Element, done: Element, omega: Element)
-    requires { length out.old ≡ 48 }
-    ensures { out.new ≡ octets (carry.c ++ done.c ++ omega.c) }
-{
-    octets::encode(&carry.c, &mut out[..16]);
-    octets::encode(&done.c, &mut out[16..32]);
-    octets::encode(&omega.c, &mut out[32..]);
 }

@@ -165,6 +165,7 @@ fn called(
     if let Some(words) = operation.words() {
         table::refuse_if(out.len() != words, Refusal::Lengths)?;
     }
+    // By kind: each takes arguments of its own.
     match operation {
         Operation::OnPoints(operation) => on_points(operation, given, out),
         Operation::OnSplit(operation) => on_split(operation, given, work, out),
@@ -187,13 +188,7 @@ fn on_points(operation: OnPoints, given: Given, out: &mut [u32]) -> Result<(), R
         OnPoints::EqualityWeightsMsb => equality::equality_weights_msb(a, out),
         OnPoints::EqualityWeightsLsb => equality::equality_weights_lsb(a, out),
         OnPoints::EvalEq => put(out, &next::eval_eq(a, b)?.c),
-        OnPoints::EvalNext => {
-            let parts = next::eval_next(a, b)?;
-            put(
-                out,
-                [parts.carry.c, parts.done.c, parts.omega.c].as_flattened(),
-            )
-        }
+        OnPoints::EvalNext => put(out, &next::eval_next(a, b)?.words()),
         OnPoints::EvalSelect => put(out, &point::select::eval_select(number, a)?.c),
         OnPoints::NewFromPoint => poly::new_from_point(a, element(b)?, out),
         OnPoints::NewNextFromPoint => poly::new_next_from_point(a, out),
@@ -250,12 +245,8 @@ fn on_table(operation: OnTable, given: Given, table: &mut [u32]) -> Result<usize
 
 // The element of a scale, given scale or r.
 fn element(words: &[u32]) -> Result<Element, Refusal> {
-    match *words {
-        [c0, c1, c2, c3] => Ok(Element {
-            c: [c0, c1, c2, c3],
-        }),
-        _ => Err(Refusal::Lengths),
-    }
+    let words = <[u32; 4]>::try_from(words).map_err(|_| Refusal::Lengths)?;
+    Ok(Element::from(words))
 }
 
 // The words of an answer, where out has as many.

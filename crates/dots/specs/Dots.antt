@@ -9,7 +9,7 @@ abbrev pub most_words : ℕ
 most_words = 2 ^ most
 
 -- a weight for each of at most so many words, all reduced
--- A clause: it is of two lent slices together.
+-- A clause: callers of `dot` and `dot_few` cut the slices for the call, so that a struct of both would be made for each.
 pub record Dots (weights words : List ℕ) : Type 0 where
   pub size : length weights ≡ 4 * length words
   pub few : length words ≤ most_words

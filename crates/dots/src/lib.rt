@@ -38,7 +38,7 @@ pub fn dot_few(weights: &[u32], words: &[u32]) -> Element
         (λ y. field.mul (element_at weights.now y) (base (get_or words.now y 0)))) }
 {
     let mut sums = [0u64; 4];
-    // By number: `gains` takes a place in both slices.
+    // By number, as in `products`.
     for i in 0..words.len() {
         let gains = products::gains::<1>(weights, words, i);
         let more = std::array::from_fn(
@@ -59,14 +59,15 @@ pub fn dot_few(weights: &[u32], words: &[u32]) -> Element
     }
 }
 
-// The sum of weights[y] entries[y] over the entries of a table of elements, divided at the end alone.
+// The sum of weights[y] entries[y] over the entries of a table of elements, divided at the end alone. Not one with `dot`: a product of two
+// elements gains seven sums (`powers`), and one by a word four.
 pub fn dot_ext(weights: &[u32], entries: &[u32]) -> Element
     requires { Pairs (length entries.now / 4) weights.now entries.now }
     ensures { Holds result (sum_to field (length entries.now / 4)
         (λ y. field.mul (element_at weights.now y) (element_at entries.now y))) }
 {
     let mut sums = halves::none();
-    // By number: a turn reads one place of both slices.
+    // By number, as in `products`.
     for y in 0..entries.len() / 4 {
         let x = table::read(weights, y);
         let more = powers::gain(sums, x, table::read(entries, y));

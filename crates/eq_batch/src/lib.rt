@@ -17,17 +17,15 @@ ghost use Rattle.eq_batch.specs.Batch.{batch_tests, batch_answer, batch_at, set_
 ghost use Rattle.eq_batch.specs.Inner.{Elements, Points, Column, Gathered, scaled_at, last};
 
 use field::Element;
-use point::{Point, equality};
+use point::{Point, WORDS, equality};
 use table::Refusal;
-use weigh::BLOCK;
+use weigh::{BLOCK, BLOCK_WORDS};
 
 // The most points of a batch.
 pub const MOST_POINTS: usize = 64;
 
-// The words of the most coordinates.
-const WORDS: usize = 4 * table::MOST;
-
-// out becomes the sum.
+// out becomes the sum. The parameters are document 01's: a struct of n, points and scalars would stand behind the tests, for `add_points`
+// alone.
 #[tactic(auto, using(table::proofs::Outcomes::outcomes), unfolding(crate::specs::Batch::batch_answer, crate::specs::Batch::set_out))]
 pub fn eval_eq_batch(
     n: usize,
@@ -47,7 +45,8 @@ pub fn eval_eq_batch(
     Ok(())
 }
 
-// out gains the sum.
+// out gains the sum. The body is that of `eval_eq_batch` without `clear`. One function of both, by a const parameter, would call it under
+// an `if`, and its contract would say by a definition more which of `set_out` and `add_out` it is.
 #[tactic(auto, using(table::proofs::Outcomes::outcomes), unfolding(crate::specs::Batch::batch_answer, crate::specs::Batch::add_out))]
 pub fn eval_eq_batch_add(
     n: usize,
@@ -108,7 +107,7 @@ fn add_points(n: usize, points: &[u32], scalars: &[u32], out: &mut [u32])
         out.old out.new }
 {
     let w = scalars.len() / 4;
-    // By number: column j of the rows is no slice.
+    // By number: column j has an element of each row, so that it is no slice of points.
     for j in 0..w {
         let column = gather(points, n, w, j);
         let point = Point {
@@ -140,7 +139,7 @@ fn add_point(point: Point, scale: Element, out: &mut [u32])
     let low = point.count.min(BLOCK);
     let first = point.first(point.count - low);
     let rows = table::rows(low);
-    // By number: h is the row of the first coordinates.
+    // By number: nothing is known of a block that `chunks_exact_mut` lent.
     for h in 0..table::rows(first.count) {
         let seed = scale.mul(equality::at_row(first, h));
         add_block(point, low, seed, h * rows, out);
@@ -153,7 +152,7 @@ fn add_block(point: Point, low: usize, seed: Element, from: usize, out: &mut [u3
     ensures { Gained from (2 ^ low) (scaled_at seed (last low point.entry)) out.old out.new }
 {
     let rows = table::rows(low);
-    let block = weigh::block_of(point, low, seed);
+    let block = weigh::block_of::<BLOCK_WORDS>(point, low, seed);
     add_table(&block, rows, from, out);
 }
 

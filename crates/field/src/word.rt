@@ -1,4 +1,8 @@
-// Base words: numbers below the modulus, and their sums, differences and products modulo it.
+// Base words: numbers below the modulus, and their sums, differences and products modulo it. Words widen by `as`, which the check shows to
+// lose nothing.
+//
+// Each contract asks that a word is below the modulus, and no type says it: tables and `Element` have plain words, so that a type of such
+// a word would be made of them at each call, and opened again to store what the call gives.
 ghost use Rattle.std.specs.Prelude.{◌≡◌, ◌+◌, ◌-◌, ◌*◌, ◌%◌, ◌<◌, ◌≤◌};
 ghost use Rattle.field.specs.Field.{p};
 ghost use Rattle.field.specs.Inner.{unit};

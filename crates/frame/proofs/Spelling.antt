@@ -1,5 +1,5 @@
 -- The loop that fills bytes with what a line spells, at byte i: those before i are there. Assumes nothing.
-use mathlib.Core.Path.{◌≡◌, refl, sym, ◌∙◌}
+use mathlib.Core.Path.{◌≡◌, sym, ◌∙◌}
 use mathlib.Core.Bool.{true}
 use mathlib.Core.Logic.{◌≢◌}
 use Prim.Native.Nat.{ℕ, ◌+◌, ◌*◌, ◌≤◌, ◌<◌}
@@ -16,9 +16,6 @@ use Rattle.frame.proofs.Grammar.{spelled_length, at_spelled, hex_at}
 pub record Spelt (line was bytes : List ℕ) (i : ℕ) : Type 0 where
   pub same : length bytes ≡ length was
   pub done : (k : ℕ) → k < i → get_or bytes k 0 ≡ get_or (spelled line) k 0
-
-pub start : (line was : List ℕ) → Spelt line was was 0
-start line was = record { same = refl; done = λ k h. omega arith }
 
 module _ {line was : List ℕ} (fits : Spells line was) where
   -- the two digits of byte i stand in the line

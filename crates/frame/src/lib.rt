@@ -6,17 +6,21 @@
 //     04
 #![tactic(auto)]
 
-mod words;
-
-ghost use Rattle.std.specs.Prelude.{◌≡◌, true, ◌∷◌, [], ◌+◌, ◌*◌, ◌≤◌, ◌<◌, length, replicate};
+ghost use Rattle.std.specs.Prelude.{◌≡◌, true, ◌∷◌, [], ◌+◌, ◌*◌, ◌≤◌, ◌<◌, length};
 ghost use Rattle.std.proofs.lemmas.List.Edits.{sets};
 ghost use Rattle.frame.specs.Hex.{is_digit, digit_of, glyph, is_hex, spelled, word_at, words_at, byte_digits, word_digits};
 ghost use Rattle.frame.specs.Frame.{byte_at, element_of, frame_by, frame_of};
 ghost use Rattle.frame.specs.Inner.{Spells};
 
+use buffer::Buffer;
 use field::Element;
 use multilinear::{Side, Weight};
-pub use words::{MOST_WORDS, Words};
+
+// The most words of an `03`.
+pub const MOST_WORDS: usize = 16;
+
+// The words of an `03`.
+pub type Words = Buffer<u32, MOST_WORDS>;
 
 // The arguments of a session but for its coordinates.
 #[derive(Clone, Copy)]
@@ -65,7 +69,8 @@ pub fn decode(line: &[u8]) -> Option<Frame>
     if MOST_BYTES < count || !is_hex(line) {
         return None;
     }
-    let mut room = byte_room();
+    // No `Buffer` that takes byte after byte: tried, and proved, but `foldframes` then takes 15 to 18 in 100 more instructions.
+    let mut room = [0u8; MOST_BYTES];
     let bytes = &mut room[..count];
     spell(line, bytes);
     read(bytes)
@@ -129,8 +134,8 @@ fn read_open(bytes: &[u8]) -> Option<Frame>
     Some(Frame::Open(Opening {
         side: Side::try_from(bytes[1]).ok()?,
         weight: Weight::try_from(bytes[2]).ok()?,
-        n: bytes[3] as usize,
-        k: bytes[4] as usize,
+        n: usize::from(bytes[3]),
+        k: usize::from(bytes[4]),
         scale: element(bytes, 5),
     }))
 }
@@ -145,7 +150,7 @@ fn read_coordinate(bytes: &[u8]) -> Option<Frame>
         return None;
     }
     Some(Frame::Coordinate {
-        index: bytes[1] as usize,
+        index: usize::from(bytes[1]),
         coordinate: element(bytes, 2),
     })
 }
@@ -156,7 +161,7 @@ fn read_words(bytes: &[u8]) -> Option<Frame>
     requires { byte_at bytes.now 0 ≡ 3 }
     ensures { result ≡ frame_by bytes.now }
 {
-    let count = *bytes.get(1)? as usize;
+    let count = usize::from(*bytes.get(1)?);
     if MOST_WORDS < count || bytes.len() != 2 + 4 * count {
         return None;
     }
@@ -201,13 +206,6 @@ fn word_list(bytes: &[u8], count: usize) -> Words
         words.push(word(four, 0));
     }
     words
-}
-
-// Room for the bytes of a frame. In a function of its own, or the literal stands in each goal of `decode`.
-fn byte_room() -> [u8; MOST_BYTES]
-    ensures { result ≡ replicate 66 0 }
-{
-    [0u8; MOST_BYTES]
 }
 
 // The word of the four bytes from byte b on, the highest first.

@@ -25,7 +25,7 @@ use Rattle.runs.specs.declared.Phase.{Phase}
 use Rattle.runs.specs.declared.Phase.TheVariants.{Done}
 use Rattle.runs.specs.declared.Reader.{Reader}
 use Rattle.runs.specs.Reader.{most_places, started, opened, noted, counted, taken, used, gained, out_by, Ready}
-use Rattle.frames.specs.Inner.{InLimits, Takes}
+use Rattle.frames.specs.Inner.{Takes}
 use Rattle.runs.proofs.Accepted.{Opens, Notes, Feeds}
 use Rattle.runs.proofs.Steps.{accepted}
 
@@ -51,9 +51,6 @@ pub at_start_zeros : {out : List ℕ} → out ≡ replicate (4 * 2 ^ most_places
 at_start_zeros e =
     at_start _ (ap length e ∙ length-replicate {A = ℕ} (4 * 2 ^ most_places) 0)
     (ap (unreduced p) e ∙ unreduced_zeros p p_pos (4 * 2 ^ most_places))
-
-pub limits : {r : Reader} {out : List ℕ} → Ready r out → InLimits r
-limits d = record { sound = d.sound; within = d.within }
 
 -- the words of out that the session has
 pub used_fits : {r : Reader} {out : List ℕ} → Ready r out → used r ≤ length out

@@ -187,7 +187,7 @@ fn feed(reader: Reader, words: &[u32], out: &mut [u32]) -> Reader
     ensures out_after { out.new ≡ gained reader words.now out.old }
 {
     let taken = reader.session.taken;
-    let plan = reader.session.plan;
+    let plan = &reader.session.plan;
     let used = 4 * plan.places();
     piece::add(plan, taken, words, &mut out[..used]);
     mark(reader, Phase::Words, taken + words.len())

@@ -1,5 +1,5 @@
 // The answer of the next weight's parts: 0 or the refusal's number, and their words in out.
-ghost use Rattle.std.specs.Prelude.{◌≡◌, ◌++◌};
+ghost use Rattle.std.specs.Prelude.{◌≡◌};
 ghost use Rattle.next.specs.Next.{next_outcome};
 ghost use Rattle.host_answers.specs.Host.{answered, shown};
 
@@ -10,16 +10,5 @@ use table::Refusal;
 pub fn give_next(given: Result<Parts, Refusal>, out: &mut [u32; 12]) -> u32
     ensures { answered result out.new ≡ shown (next_outcome given) out.old }
 {
-    host_answers::give(given.map(words), out)
-}
-
-fn words(x: Parts) -> [u32; 12]
-    ensures { result ≡ x.carry.c ++ x.done.c ++ x.omega.c }
-{
-    let carry = x.carry.c;
-    let done = x.done.c;
-    let omega = x.omega.c;
-    let mut words = [0u32; 12];
-    words.copy_from_slice([carry, done, omega].as_flattened());
-    words
+    host_answers::give(given.map(Parts::words), out)
 }

@@ -5,7 +5,6 @@
 // Numbers that are no side, weight or truth value give 255: no refusal, and nothing is touched.
 use field::Element;
 use ledger::Session;
-use multilinear::{Side, Weight};
 use plan::Plan;
 use table::Refusal;
 
@@ -33,10 +32,10 @@ pub extern "C" fn host_session_open(
     head: &mut [u32; HEAD],
     coordinates: &mut [u32; COORDINATES],
 ) -> u32 {
-    let Some(side) = side_of(side) else {
+    let Some(side) = by_number(side) else {
         return NO_SESSION;
     };
-    let Some(weight) = weight_of(weight) else {
+    let Some(weight) = by_number(weight) else {
         return NO_SESSION;
     };
     let scale = Element {
@@ -91,8 +90,8 @@ fn session_of(head: &[u32; HEAD], coordinates: &[u32; COORDINATES]) -> Option<Se
     let plan = Plan {
         n: head[0] as usize,
         k: head[1] as usize,
-        side: side_of(head[2])?,
-        weight: weight_of(head[3])?,
+        side: by_number(head[2])?,
+        weight: by_number(head[3])?,
         scale: Element {
             c: [head[6], head[7], head[8], head[9]],
         },
@@ -138,12 +137,9 @@ fn head_of(s: &Session) -> [u32; HEAD] {
     ]
 }
 
-fn side_of(number: u32) -> Option<Side> {
-    Side::try_from(u8::try_from(number).ok()?).ok()
-}
-
-fn weight_of(number: u32) -> Option<Weight> {
-    Weight::try_from(u8::try_from(number).ok()?).ok()
+// The side or the weight of this number; none where it has none.
+fn by_number<T: TryFrom<u8, Error: Drop>>(number: u32) -> Option<T> {
+    T::try_from(u8::try_from(number).ok()?).ok()
 }
 
 // By number: a truth value has no `TryFrom` of a number, and the record of C has a number for closed.

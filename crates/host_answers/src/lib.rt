@@ -29,6 +29,7 @@ pub fn give_words(given: Result<Element, Refusal>, out: &mut [u32; 4]) -> u32
     give(given.map(words), out)
 }
 
+// A function, since of a closure without a clause nothing is known.
 fn words(e: Element) -> [u32; 4]
     ensures { result ≡ e.c }
 {

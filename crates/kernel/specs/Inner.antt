@@ -7,7 +7,7 @@ use Rattle.kernel.specs.Kernel.{weight_at}
 use Rattle.kernel.specs.declared.steps.Strided.{Strided}
 
 -- the n words are there, and below p
--- A clause: it is of lent words and of where they stand together.
+-- A clause: where they stand differs from turn to turn, and a struct of it and of the words would be made at each.
 pub record There (n : ℕ) (words : List ℕ) (s : Strided) : Type 0 where
   pub within : (t : ℕ) → t < n → t * s.apart + s.first < length words
   pub below : (t : ℕ) → get_or words t 0 < p

@@ -7,7 +7,7 @@ use Rattle.field.specs.Field.{p, Ext, field, base, from_words, Reduced}
 use Rattle.field.specs.declared.Element.{Element}
 
 -- reduced words, k for each of n elements of out from place `from` on
--- A clause: it is of two lent slices and of counts together.
+-- A clause: out is lent as `&mut`, and a ghost field beside a `&mut` is not covered.
 pub record Groups (k from n : ℕ) (out words : List ℕ) : Type 0 where
   pub room : 4 * (from + n) ≤ length out
   pub there : k * n ≤ length words

@@ -16,7 +16,8 @@ pub struct Strided {
     pub apart: usize,
 }
 
-// old, and the sum of the words, each times its weight.
+// old, and the sum of the words, each times its weight. Weights, words and `at` go together here and below: `at` differs from turn to
+// turn, and a struct of the three would be made at each, with a copy of the weights.
 pub fn step<const N: usize>(
     old: Element,
     weights: [Element; N],
@@ -27,6 +28,7 @@ pub fn step<const N: usize>(
     requires words { There N words.now at }
     ensures { Holds result (field.add (from_words old) (weighed N weights.entry (word_at words.now at))) }
 {
+    // Four lines: in each k is a constant index into two arrays of four.
     Element {
         c: [
             residues::residue::<N>(products(old.c[0], weights, words, at, 0)),
@@ -43,6 +45,7 @@ pub fn lowered<const N: usize>(weights: [Element; N], words: &[u32], at: Strided
     requires words { There N words.now at }
     ensures { Holds result (field.mul (weighed N weights.entry (word_at words.now at)) (base unit_inverse)) }
 {
+    // Four lines: in each k is a constant index into an array of four.
     Element {
         c: [
             lowering::lower(products(0, weights, words, at, 0)),
@@ -68,7 +71,8 @@ fn products<const N: usize>(
     ensures few { result ≤ old + N * ((p - 1) * (p - 1)) }
 {
     let mut sum = old as u64;
-    // By number: a place's words stand `apart` from each other. `step_by` asks that this is not 0, which `There` does not say.
+    // By number: a place's words stand `apart` from each other. `step_by` asks that this is not 0: a field more of `There`, which three
+    // callers would give.
     for t in 0..N {
         sum += word::wide(weights[t].c[k], words[t * at.apart + at.first]);
     }

@@ -1,5 +1,5 @@
-// The session's record; its specs say what open, feed, close and read answer and leave, what a ledger holds, and demand 3. The functions
-// are in `session`.
+// The session's record; its specs say what open, feed, close and read answer and leave, what a ledger holds, and what holds of sessions
+// after every list of calls. The functions are in `session`.
 #![tactic(auto)]
 
 use plan::Plan;

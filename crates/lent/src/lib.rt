@@ -1,4 +1,4 @@
-// The session lent: the same calls, which leave the session where it stands.
+// The session lent: feed and close, which leave the session where it stands. Document 01 asks for them beside those by value.
 #![tactic(auto)]
 
 ghost use Rattle.std.specs.Prelude.{◌≡◌};
@@ -31,8 +31,8 @@ pub fn close(s: &mut Session, out: &[u32]) -> Result<(), Refusal>
     Ok(())
 }
 
-// The lent feed, for a caller that holds the session by value. Document 01 asks for feed and close on a lent session: this is beside `feed`,
-// and not in its place.
+// The lent feed, for a caller that holds the session by value. Its contract is that of `session::feed`, and `worked_sessions` runs the two
+// side by side.
 pub fn feed_through(s: Session, piece: &[u32], out: &mut [u32]) -> Result<Session, Refusal>
     ensures { settled result s out.new ≡ feed_step (state s out.old) piece.now }
 {
@@ -41,7 +41,7 @@ pub fn feed_through(s: Session, piece: &[u32], out: &mut [u32]) -> Result<Sessio
     Ok(t)
 }
 
-// The lent close, for a caller that holds the session by value, beside `close` as `feed_through` beside `feed`.
+// The lent close, for a caller that holds the session by value: as `feed_through`.
 pub fn close_through(s: Session, out: &[u32]) -> Result<Session, Refusal>
     ensures { settled result s out.now ≡ close_step (state s out.now) }
 {

@@ -24,17 +24,13 @@ use Rattle.table.proofs.Gaining.{gained_as}
 use Rattle.table.proofs.Laws.{elements_length}
 use Rattle.point.specs.Points.{coordinates}
 use Rattle.moved.specs.declared.Piece.{Piece}
-use Rattle.moved.specs.Moved.{Adds, moved_by}
+use Rattle.moved.specs.Moved.{moved_by}
 
 -- at most one row
 pub skip_small : (weight : Weight) → skip_of weight ≤ 1
 skip_small Plain = omega arith
 skip_small Shifted = omega arith
 skip_small Next = omega arith
-
--- what has gained can gain again
-pub again : {piece : Piece} {out w : List ℕ} {from n : ℕ} {g : ℕ → Ext} → Adds piece out → Gained from n g out w → Adds piece w
-again a d = record { room = d.len ∙ a.room; out_below = d.below a.out_below }
 
 module _ (side : Side) (piece : Piece) where
   abbrev word : ℕ → Ext

@@ -3,7 +3,7 @@ use mathlib.Core.Path.{◌≡◌, refl, sym, ap, ap₂, ◌∙◌}
 use Prim.Native.Nat.{ℕ, suc, ◌+◌, ◌-◌, ◌*◌, ◌^◌, ◌/◌, ◌≤◌, ◌<◌}
 use native.Mathlib.Decide.{dec_lt}
 use native.Mathlib.Nat.{mul_comm, add-mul, mul-le-mul_left, mul-le-mul_right, le_of_mul-le-mul_right, lt_of_mul-lt-mul_right}
-use native.Mathlib.Nat.{div-mul-le_self, lt-div-mul-add, sub_self, le_antisymm}
+use native.Mathlib.Nat.{div-mul-le_self, lt-div-mul-add, le_antisymm}
 use native.Mathlib.Omega.{arith}
 use mathlib.Core.Bool.{cond}
 use mathlib.Core.List.{List}
@@ -45,9 +45,6 @@ pub record Done (g : ℕ → Ext) (from to : ℕ) (ws w : List ℕ) (i : ℕ) : 
   pub within : i ≤ to
   pub gained : Gained from (i - from) (λ y. g (from + y)) ws w
 
-pub start : (g : ℕ → Ext) {from to : ℕ} (ws : List ℕ) → from ≤ to → Done g from to ws ws from
-start g {from} ws h = record { begun = omega arith; within = h; gained = rw (sub_self from) (none from _ ws) }
-
 pub next : {g : ℕ → Ext} {from to i : ℕ} {ws w w' : List ℕ} {r sum e : Element} {v : Ext} → Done g from to ws w i → i < to
     → 4 * i + 3 < length ws → Holds r (element_at w i) → Holds sum v → v ≡ g i → Holds e (field.add (from_words r) (from_words sum))
     → w' ≡ put_at w i e → Done g from to ws w' (i + 1)
@@ -60,9 +57,6 @@ next {g} {from} {to} {i} {ws} {w} d h l hr hs is he put =
       within = omega arith;
       gained = rw m (turn from (i - from) _ ws w d.gained fits i q _ _ (read_as _ hr) (read_as _ hs ∙ is ∙ ap g q) he put);
     }
-
-pub end : {g : ℕ → Ext} {from to i : ℕ} {ws w : List ℕ} → to ≤ i → Done g from to ws w i → Gained from (to - from) (λ y. g (from + y)) ws w
-end h d = let q = le_antisymm d.within h in rw q at d.gained
 
 -- one range of places after another
 pub adjacent : (g : ℕ → Ext) {from mid to : ℕ} {ws w w' : List ℕ} → from ≤ mid → mid ≤ to

@@ -1,11 +1,21 @@
 -- What the inner functions take and give. No operation that users call cites it. Assumes nothing.
-use Rattle.std.specs.Prelude.{◌≡◌, ℕ, ◌+◌, ◌-◌, ◌*◌, ◌^◌, ◌≤◌, ◌<◌, List, length}
+use Rattle.std.specs.Prelude.{◌≡◌, ℕ, ◌+◌, ◌-◌, ◌*◌, ◌^◌, ◌≤◌, ◌<◌, List, min, length}
 use Rattle.multilinear.specs.declared.Side.TheVariants.{Suffix}
 use Rattle.table.specs.Table.{placed}
 use Rattle.table.specs.Gained.{Gained}
+use Rattle.weigh.specs.Weigh.{block_variables}
 use Rattle.weigh.specs.declared.blocks.Piece.{Piece as Words}
 use Rattle.moved.specs.declared.Piece.{Piece}
 use Rattle.moved.specs.Moved.{table_word, moved_by}
+
+-- a block's table of a piece's last `low` coordinates, two if there are as many, has room in so many words, which are no more than a
+-- block's
+pub record Served (piece : Piece) (low words : ℕ) : Type 0 where
+  pub low_fits : low ≤ piece.point.count
+  pub enough : min piece.point.count 2 ≤ low
+  pub small : low ≤ block_variables
+  pub room : 4 * 2 ^ low ≤ words
+  pub few : words ≤ 1024
 
 -- places that are there, none of them before the one that the piece starts in
 pub record Reached (piece : Piece) (from to : ℕ) : Type 0 where

@@ -21,7 +21,7 @@ impl<'a> Piece<'a> {
     ghost use Rattle.multilinear.specs.declared.Side.TheVariants.{Suffix};
     ghost use Rattle.table.specs.Gained.{Gained};
     ghost use Rattle.moved.specs.Moved.{Adds, moved_by};
-    ghost use Rattle.moved.specs.Inner.{Cuts};
+    ghost use Rattle.moved.specs.Inner.{Served, Cuts};
 
     // The rows from `skip` on of each place, each by the weight of the row `skip` before.
     pub(crate) fn by_places(&self, out: &mut [u32])
@@ -31,27 +31,25 @@ impl<'a> Piece<'a> {
         if self.words.len() == 0 {
             return;
         }
-        let point = self.point;
-        // Two arms alike: a small block's array has another size than a block's.
+        let k = self.point.count;
         if self.words.len() < SHORT {
-            let low = usize::min(point.count, weigh::SMALL_BLOCK);
-            let block = weigh::small_block_of(point, low, self.scale);
-            let split = SplitPoint::of(point, low, &block);
-            let blocks = Blocks {
-                piece: *self,
-                split,
-            };
-            blocks.add_places(out);
+            self.by_blocks::<{ weigh::SMALL_BLOCK_WORDS }>(k.min(weigh::SMALL_BLOCK), out);
         } else {
-            let low = block_variables(point.count, self.words.len());
-            let block = weigh::block_of(point, low, self.scale);
-            let split = SplitPoint::of(point, low, &block);
-            let blocks = Blocks {
-                piece: *self,
-                split,
-            };
-            blocks.add_places(out);
+            self.by_blocks::<{ weigh::BLOCK_WORDS }>(block_variables(k, self.words.len()), out);
         }
+    }
+
+    // The same of a piece that has words, by blocks of `low` variables, whose table has so many words.
+    fn by_blocks<const WORDS: usize>(&self, low: usize, out: &mut [u32])
+        requires { (Adds self.now out.old × (0 < length self.now.words.now)) × Served self.now low WORDS }
+        ensures { Gained 0 self.now.inner (moved_by Suffix self.now) out.old out.new }
+    {
+        let block = weigh::block_of::<WORDS>(self.point, low, self.scale);
+        let blocks = Blocks {
+            piece: *self,
+            split: SplitPoint::of(self.point, low, &block),
+        };
+        blocks.add_places(out);
     }
 
     // The words from word `start` to before word `stop` of the table: all that are between, but for a place that is cut.
@@ -117,7 +115,7 @@ impl<'a> Blocks<'a> {
     {
         let rows = table::rows(self.piece.point.count);
         let skip = crate::skip_of(self.piece.weight);
-        // By number: a turn takes an element of out, four words of it, and words that stand elsewhere.
+        // By number: nothing is known of an element that `chunks_exact_mut` lent.
         for i in range.start..range.end {
             let words = self.piece.cut(i * rows + skip, i * rows + rows);
             let sum = self.split.part(words);

@@ -8,24 +8,24 @@ ghost use Rattle.multilinear.specs.Bytes.{side_byte, weight_byte, SideFrom, Weig
 use std::error::Error;
 use std::fmt;
 
-// Which variables of a table a fold sums over.
+// Which variables of a table a fold sums over; its number is its byte.
 #[derive(Clone, Copy, Debug, PartialEq, Eq)]
 pub enum Side {
     // The first: a row is consecutive words.
-    Prefix,
+    Prefix = 0,
     // The last: a place's rows are consecutive words.
-    Suffix,
+    Suffix = 1,
 }
 
-// The weight of a row.
+// The weight of a row; its number is its byte.
 #[derive(Clone, Copy, Debug, PartialEq, Eq)]
 pub enum Weight {
     // eq of the row.
-    Plain,
+    Plain = 0,
     // eq of the row before; 0 at the first.
-    Shifted,
+    Shifted = 1,
     // The shifted one, and the last row's own once more.
-    Next,
+    Next = 2,
 }
 
 // A byte that stands for no value.
@@ -58,10 +58,7 @@ impl From<Side> for u8 {
     ghost from_gives = { λ side byte. byte ≡ side_byte side };
 
     fn from(side: Side) -> u8 {
-        match side {
-            Side::Prefix => 0,
-            Side::Suffix => 1,
-        }
+        side as u8
     }
 }
 
@@ -84,10 +81,6 @@ impl From<Weight> for u8 {
     ghost from_gives = { λ weight byte. byte ≡ weight_byte weight };
 
     fn from(weight: Weight) -> u8 {
-        match weight {
-            Weight::Plain => 0,
-            Weight::Shifted => 1,
-            Weight::Next => 2,
-        }
+        weight as u8
     }
 }

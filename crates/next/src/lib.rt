@@ -1,19 +1,22 @@
 // Two points: eq of the first extended to the second, and the first's successor tables at the second.
 #![tactic(auto)]
 
-ghost use Rattle.std.specs.Prelude.{◌≡◌};
+mod pair;
+
+ghost use Rattle.std.specs.Prelude.{◌≡◌, ◌++◌};
 ghost use Rattle.algebra.specs.Ring.{Ops, minus};
 ghost use Rattle.multilinear.specs.Equality.{agreement};
 ghost use Rattle.multilinear.specs.Successors.{eval_next, done_step};
 ghost use Rattle.multilinear.specs.Beside.{eval_eq};
 ghost use Rattle.field.specs.Field.{field, from_words, Reduced, Holds};
-ghost use Rattle.table.specs.Refusals.{answer, outcome, verdict};
+ghost use Rattle.table.specs.Refusals.{outcome};
 ghost use Rattle.point.specs.Points.{coordinates};
-ghost use Rattle.next.specs.Next.{pair_tests, eval_eq_answer, eval_next_answer, next_outcome};
+ghost use Rattle.next.specs.Next.{eval_eq_answer, eval_next_answer, next_outcome};
 ghost use Rattle.next.specs.Inner.{Paired, HoldParts};
 
 use field::Element;
-use point::Point;
+use pair::Pair;
+use std::fmt;
 use table::Refusal;
 
 // What the successor tables of a point give at a second one.
@@ -24,13 +27,36 @@ pub struct Parts {
     pub omega: Element,
 }
 
+impl Parts {
+    // The words of carry, done and omega, one after another.
+    pub fn words(self) -> [u32; 12]
+        ensures { result ≡ self.carry.c ++ self.done.c ++ self.omega.c }
+    {
+        let carry = self.carry.c;
+        let done = self.done.c;
+        let omega = self.omega.c;
+        let mut words = [0u32; 12];
+        words.copy_from_slice([carry, done, omega].as_flattened());
+        words
+    }
+}
+
+impl fmt::Display for Parts {
+    fn fmt<W: fmt::Write>(&self, f: &mut fmt::Formatter<W>) -> fmt::Result {
+        let carry = self.carry;
+        let done = self.done;
+        let omega = self.omega;
+        write!(f, "{carry} {done} {omega}")
+    }
+}
+
 // The product of 2pq - p - q + 1 over the pairs of coordinates.
 #[tactic(auto, using(table::proofs::Outcomes::outcomes), unfolding(crate::specs::Next::eval_eq_answer))]
 pub fn eval_eq(point: &[u32], other: &[u32]) -> Result<Element, Refusal>
     ensures { outcome result ≡ eval_eq_answer point.now other.now }
 {
-    test_pair(point, other)?;
-    Ok(agreements(Point::of(point), Point::of(other)))
+    let pair = Pair::of(point, other)?;
+    Ok(agreements(pair))
 }
 
 // carry, done and omega of two points.
@@ -38,32 +64,18 @@ pub fn eval_eq(point: &[u32], other: &[u32]) -> Result<Element, Refusal>
 pub fn eval_next(point: &[u32], other: &[u32]) -> Result<Parts, Refusal>
     ensures { next_outcome result ≡ eval_next_answer point.now other.now }
 {
-    test_pair(point, other)?;
-    Ok(next_parts(Point::of(point), Point::of(other)))
+    let pair = Pair::of(point, other)?;
+    Ok(next_parts(pair))
 }
 
-#[tactic(auto, using(table::proofs::Verdicts::tests))]
-fn test_pair(point: &[u32], other: &[u32]) -> Result<(), Refusal>
-    ensures { answer result ≡ verdict (pair_tests point.now other.now) }
-{
-    table::refuse_if(table::splits(point), Refusal::Split)?;
-    table::refuse_if(table::splits(other), Refusal::Split)?;
-    table::refuse_if(table::too_many(point), Refusal::TooMany)?;
-    table::refuse_if(table::too_many(other), Refusal::TooMany)?;
-    table::refuse_if(table::lengths_differ(point, other), Refusal::Lengths)?;
-    table::refuse_if(field::unreduced(point), Refusal::Unreduced)?;
-    table::refuse_if(field::unreduced(other), Refusal::Unreduced)
-}
-
-fn agreements(point: Point, other: Point) -> Element
-    requires { point.count ≡ other.count }
-    ensures { Holds result (eval_eq field (coordinates point.entry) (coordinates other.entry)) }
+fn agreements(pair: Pair) -> Element
+    ensures { Holds result (eval_eq field (coordinates pair.entry.point) (coordinates pair.entry.other)) }
 {
     let mut product = Element::one();
-    // By number, from the last coordinate back: a coordinate is four words, which `read` takes together.
-    for j in (0..point.count).rev() {
-        let s = point.read(j);
-        let t = other.read(j);
+    // By number, from the last coordinate back: two points, read at one place.
+    for j in (0..pair.point.count).rev() {
+        let s = pair.point.read(j);
+        let t = pair.other.read(j);
         product = agree(s, t, s.mul(t)).mul(product);
     }
     product
@@ -71,17 +83,16 @@ fn agreements(point: Point, other: Point) -> Element
 
 // From the last pair, which goes with the lowest bit, back to coordinate 0. The product st of a pair serves every step: five products a
 // pair.
-fn next_parts(point: Point, other: Point) -> Parts
-    requires { point.count ≡ other.count }
-    ensures { HoldParts result (eval_next field (coordinates point.entry) (coordinates other.entry)) }
+fn next_parts(pair: Pair) -> Parts
+    ensures { HoldParts result (eval_next field (coordinates pair.entry.point) (coordinates pair.entry.other)) }
 {
     let mut carry = Element::one();
     let mut done = Element::zero();
     let mut omega = Element::one();
-    // By number, from the last coordinate back: a coordinate is four words, which `read` takes together.
-    for j in (0..point.count).rev() {
-        let s = point.read(j);
-        let t = other.read(j);
+    // By number, from the last coordinate back: two points, read at one place.
+    for j in (0..pair.point.count).rev() {
+        let s = pair.point.read(j);
+        let t = pair.other.read(j);
         let both = s.mul(t);
         done = done_step(s, t, both, done, carry);
         carry = carry_step(s, both, carry);

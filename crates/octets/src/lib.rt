@@ -21,6 +21,7 @@ pub fn decode(bytes: &[u8], from: usize, ws: &mut [u32])
     requires { 4 * (from + length ws.old) ≤ length bytes.now }
     ensures { ws.new ≡ take (length ws.old) (drop from (words bytes.now)) }
 {
+    // By number: of the words that a `zip` of `iter_mut` with `chunks_exact` lends nothing is known after the loop (tried).
     for (i, w) in ws.iter_mut().enumerate() {
         *w = word_at(bytes, from + i);
     }
@@ -31,6 +32,7 @@ pub fn encode(ws: &[u32], bytes: &mut [u8])
     requires { length bytes.old ≡ 4 * length ws.now }
     ensures { bytes.new ≡ octets ws.now }
 {
+    // By number: of the parts that `chunks_exact_mut` lends nothing is known after the loop.
     for (i, w) in ws.iter().enumerate() {
         bytes[4 * i..4 * i + 4].copy_from_slice(&w.to_le_bytes());
     }

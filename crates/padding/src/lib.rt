@@ -4,6 +4,8 @@
 //     rows      w w w w        with 7 words of rows of 4: places 0 to 2 lack the rows from 2 on,
 //               w w w .        place 3 those from 1 on
 //               . . . .
+//
+// `keep` and `pad` have no caller yet (docs/DECISIONS.md, "The last row for the missing ones").
 #![tactic(auto)]
 
 ghost use Rattle.std.specs.Prelude.{◌≡◌, ◌+◌, ◌-◌, ◌%◌, ◌^◌, ◌≤◌, ◌<◌, length, get_or};
@@ -69,10 +71,7 @@ fn repeat_row(plan: Plan, taken: usize, last: &[u32], out: &mut [u32])
     }
     let row = taken / inner;
     let part = taken % inner;
-    let point = Point {
-        words: &plan.coordinates,
-        count: plan.k,
-    };
+    let point = plan.point();
     let scale = plan.scale;
     let weight = plan.weight;
     spread(last, 0, part, scale.mul(tail(point, weight, row + 1)), out);
@@ -85,6 +84,7 @@ fn spread(last: &[u32], from: usize, to: usize, weight: Element, out: &mut [u32]
     ensures { Gained from (to - from) (λ i. field.mul (from_words weight) (base (get_or last.now (from + i) 0)))
         out.old out.new }
 {
+    // The place is counted: out has four words for each of last, and nothing is known of what `chunks_exact_mut` lent.
     for (i, word) in last[from..to].iter().enumerate() {
         let place = from + i;
         let gain = weight.mul_base(*word);

@@ -6,7 +6,6 @@ ghost use Rattle.plan.specs.Sound.{Fills};
 ghost use Rattle.piece.specs.Inner.{Unowned};
 
 use plan::Plan;
-use point::Point;
 
 // out becomes the fold of the whole table, where no row has a weight of its own. Places of more words, or of one, go by sections.
 pub fn by_groups(plan: Plan, table: &[u32], out: &mut [u32])
@@ -18,12 +17,8 @@ pub fn by_groups(plan: Plan, table: &[u32], out: &mut [u32])
         return;
     }
     let scale = plan.scale;
-    let coordinates = plan.coordinates;
-    let point = Point {
-        words: &coordinates,
-        count: plan.k,
-    };
-    let block = weigh::small_block_of(point, plan.k, scale);
+    let point = plan.point();
+    let block = weigh::block_of::<{ weigh::SMALL_BLOCK_WORDS }>(point, plan.k, scale);
     let skip = moved::skip_of(plan.weight);
     if plan.k == 1 {
         kernel::set_groups(out, table, moved::weights_of::<2>(&block, skip));

@@ -6,7 +6,7 @@
 
 mod groups;
 mod own;
-pub mod sections;
+mod sections;
 
 ghost use Rattle.std.specs.Prelude.{◌≡◌, false, ◌+◌, ◌≤◌, length};
 ghost use Rattle.algebra.specs.Words.{unreduced};
@@ -18,15 +18,15 @@ ghost use Rattle.plan.specs.Sound.{Sound, Takes, Fills};
 use moved::Piece;
 use multilinear::{Side, Weight};
 use plan::Plan;
-use point::Point;
+pub use sections::HELD;
 
 // out gains scale weight word at each word's place. It stays a call: copied into a caller that goes line by line, it copies the plan more often.
 #[inline(never)]
-pub fn add(plan: Plan, taken: usize, piece: &[u32], out: &mut [u32])
-    requires { Takes plan taken piece.now out.old }
-    ensures { out.new ≡ gained_by plan taken piece.now out.old }
+pub fn add(plan: &Plan, taken: usize, piece: &[u32], out: &mut [u32])
+    requires { Takes plan.now taken piece.now out.old }
+    ensures { out.new ≡ gained_by plan.now taken piece.now out.old }
 {
-    let piece = piece_of(&plan, taken, piece);
+    let piece = piece_of(plan, taken, piece);
     let side = plan.side;
     piece.add(side, out);
     own::add_own(side, &piece, out);
@@ -44,12 +44,8 @@ fn piece_of<'a>(plan: &'a Plan, taken: usize, words: &'a [u32]) -> Piece<'a>
     ensures taken { result.taken ≡ taken }
     ensures words { result.words.now ≡ words.now }
 {
-    let point = Point {
-        words: &plan.coordinates,
-        count: plan.k,
-    };
     Piece {
-        point,
+        point: plan.point(),
         weight: plan.weight,
         scale: plan.scale,
         inner: plan.places(),
@@ -79,5 +75,5 @@ fn fold_whole(plan: Plan, table: &[u32], out: &mut [u32])
     ensures { out.new ≡ fold_of plan table.now }
 {
     table::clear(out);
-    add(plan, 0, table, out);
+    add(&plan, 0, table, out);
 }

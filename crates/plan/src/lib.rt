@@ -11,9 +11,8 @@ ghost use Rattle.plan.specs.Section.{section_of};
 
 use field::Element;
 use multilinear::{Side, Weight};
-
-// The words of the most coordinates.
-pub const WORDS: usize = 4 * table::MOST;
+use point::Point;
+pub use point::WORDS;
 
 // Contracts say what is sound (`Sound`), and not the type: the definitions of the ledger make a plan of what a call gives, before its tests.
 #[derive(Clone, Copy, Debug, PartialEq, Eq)]
@@ -49,6 +48,18 @@ impl Plan {
         ensures { result ≡ capacity self.now }
     {
         table::rows(self.n)
+    }
+
+    // The point of the plan's coordinates.
+    pub fn point(&self) -> Point<'_>
+        requires { Sound self.now }
+        ensures words { result.words.now ≡ self.now.coordinates }
+        ensures count { result.count ≡ self.now.k }
+    {
+        Point {
+            words: &self.coordinates,
+            count: self.k,
+        }
     }
 
     // The plan of 2^held places of the fold.

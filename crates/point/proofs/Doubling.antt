@@ -1,5 +1,5 @@
--- The loop of `double`: how it starts and steps. Assumes nothing.
-use mathlib.Core.Path.{◌≡◌, refl, ◌∙◌}
+-- The loop of `double`: how it steps. Assumes nothing.
+use mathlib.Core.Path.{◌≡◌, ◌∙◌}
 use mathlib.Core.Logic.{◌≢◌}
 use Prim.Native.Nat.{ℕ, ◌+◌, ◌*◌, ◌≤◌, ◌<◌}
 use native.Mathlib.Omega.{arith}
@@ -13,15 +13,6 @@ use Rattle.field.proofs.Laws.{read_as, size}
 use Rattle.table.specs.Table.{get_at, put_at, element_at}
 use Rattle.table.proofs.Laws.{length_put, get_put_other, get_put_same}
 use Rattle.point.specs.Inner.{Doubled}
-
-pub start : (n : ℕ) (z : Ext) (ws : List ℕ) → Doubled n 0 z ws ws
-start n z ws = record {
-  within = omega arith;
-  len = refl;
-  low = λ y h. absurd (omega arith);
-  mid = λ y h k. refl;
-  high = λ y h. absurd (omega arith);
-}
 
 module _ (n i : ℕ) (z : Ext) (ws w : List ℕ) (d : Doubled n i z ws w) (m : i < n) (l : 8 * n ≤ length ws) where
   abbrev hi : Element

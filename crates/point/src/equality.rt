@@ -125,7 +125,7 @@ pub fn at_row(point: Point, row: usize) -> Element
 {
     let mut product = Element::one();
     let mut left = row;
-    // By number, from the last coordinate back: a coordinate is four words, which `read` takes together.
+    // By number, from the last coordinate back: `chunks_exact(4).rev()` gives words, and that they are coordinate j's is left to prove.
     for j in (0..point.count).rev() {
         let c = point.read(j);
         let f = for_bit(left % 2, c);
@@ -142,7 +142,7 @@ pub fn from_row(point: Point, row: usize) -> Element
 {
     let mut sum = Element::one();
     let mut left = row;
-    // By number, from the last coordinate back: a coordinate is four words, which `read` takes together.
+    // By number, from the last coordinate back: `chunks_exact(4).rev()` gives words, and that they are coordinate j's is left to prove.
     for j in (0..point.count).rev() {
         let c = point.read(j);
         sum = tail_step(left % 2, c, sum);

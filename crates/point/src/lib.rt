@@ -15,8 +15,12 @@ ghost use Rattle.point.specs.Coordinates.{Coordinates};
 
 use field::Element;
 
+// The words of the most coordinates.
+pub const WORDS: usize = 4 * table::MOST;
+
 // A point's coordinates in words, as the functions that compute with them take it: so many at the front of the words, and below the modulus.
-// The count stands beside the words, and is not theirs: the first k coordinates are the same words, and nothing is cut.
+// The count stands beside the words: of words that are cut to their coordinates it would be `words.len() / 4` at each use and in each
+// contract, and a plan's coordinates, and a column of `eq_batch`, are arrays of `WORDS` words, of which fewer may be coordinates.
 #[derive(Clone, Copy)]
 pub struct Point<'a> {
     pub words: &'a [u32],

@@ -123,9 +123,6 @@ pub record Cut (f : Feeding) (block : List ℕ) (s : Fed) (rest : List ℕ) : Ty
 abbrev pub Done : Feeding → List ℕ → Fed → Type 0
 Done f block s = s ≡ record { feeding = fed f block; text = said f block }
 
-pub start : (f : Feeding) (block : List ℕ) → Cut f block (record { feeding = f; text = [] }) block
-start f block = record { feeds = refl; says = refl; within = omega arith }
-
 module _ {f : Feeding} {block : List ℕ} {s : Fed} {rest : List ℕ} (c : Cut f block s rest) where
   done : (g : Feeding) → fed s.feeding rest ≡ g → said s.feeding rest ≡ [] → Done f block (record { feeding = g; text = s.text })
   done g e q =

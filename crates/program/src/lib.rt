@@ -3,7 +3,7 @@
 //     block --> | bytes of a line that has not ended | lines that end --> one step each --> text
 #![tactic(auto)]
 
-ghost use Rattle.std.specs.Prelude.{◌≡◌, [], true, false, ◌++◌, ◌≤◌, length, replicate};
+ghost use Rattle.std.specs.Prelude.{◌≡◌, [], true, false, ◌++◌, ◌≤◌, length};
 ghost use Rattle.frame.specs.Frame.{most_line};
 ghost use Rattle.program.specs.Blocks.{most_text, Fed, begun, line_ended, holding, fed, said, closing, end_text};
 ghost use Rattle.program.specs.Inner.{text_of, last_ended};
@@ -13,7 +13,6 @@ use runs::Reader;
 use std::marker::Model;
 use table::Refusal;
 
-mod buffer;
 mod text;
 
 // The words of the sums of 2^10 elements.
@@ -28,9 +27,9 @@ pub const MOST_TEXT: usize = 33797;
 pub struct Program {
     reader: Reader,
     out: [u32; OUT_WORDS],
-    line: Buffer<{ frame::MOST_LINE }>,
+    line: Buffer<u8, { frame::MOST_LINE }>,
     stopped: bool,
-    text: Buffer<MOST_TEXT>,
+    text: Buffer<u8, MOST_TEXT>,
 }
 
 impl Model for Program {
@@ -52,7 +51,7 @@ impl Program {
     {
         Program {
             reader: frames::start(),
-            out: out_room(),
+            out: [0u32; OUT_WORDS],
             line: Buffer::new(),
             stopped: false,
             text: Buffer::new(),
@@ -155,11 +154,4 @@ impl Program {
         }
         self.stopped = true;
     }
-}
-
-// Room for the sums of 2^10 elements. In a function of its own, or the literal stands in each goal.
-fn out_room() -> [u32; OUT_WORDS]
-    ensures { result ≡ replicate 4096 0 }
-{
-    [0u32; OUT_WORDS]
 }

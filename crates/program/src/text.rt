@@ -1,5 +1,5 @@
 // Lines in and lines out.
-ghost use Rattle.std.specs.Prelude.{◌≡◌, ◌==◌, ◌+◌, ◌*◌, ◌≤◌, ◌++◌, length, take, drop, position, replicate};
+ghost use Rattle.std.specs.Prelude.{◌≡◌, ◌==◌, ◌+◌, ◌*◌, ◌≤◌, ◌++◌, length, take, drop, position};
 ghost use Rattle.table.specs.Refusals.{number};
 ghost use Rattle.runs.specs.Reader.{Ready};
 ghost use Rattle.program.specs.Printed.{line_feed, out_line, out_lines, refusal_line};
@@ -7,7 +7,7 @@ ghost use Rattle.program.specs.Blocks.{most_text};
 ghost use Rattle.program.specs.Inner.{done_text};
 
 use crate::MOST_TEXT;
-use crate::buffer::Buffer;
+use buffer::Buffer;
 use runs::Reader;
 use table::Refusal;
 
@@ -24,7 +24,7 @@ pub fn find_line_feed(bytes: &[u8]) -> Option<usize>
 }
 
 // After an accepted line: at `04` the out lines.
-pub fn put_out(reader: &Reader, out: &[u32], text: &mut Buffer<MOST_TEXT>)
+pub fn put_out(reader: &Reader, out: &[u32], text: &mut Buffer<u8, MOST_TEXT>)
     requires ready { Ready reader.now out.now }
     requires room { length text.old + length (done_text reader.now out.now) ≤ most_text }
     ensures { text.new ≡ text.old ++ done_text reader.now out.now }
@@ -37,27 +37,20 @@ pub fn put_out(reader: &Reader, out: &[u32], text: &mut Buffer<MOST_TEXT>)
 }
 
 // The lines of elements.
-fn put_elements(out: &[u32], places: usize, text: &mut Buffer<MOST_TEXT>)
+fn put_elements(out: &[u32], places: usize, text: &mut Buffer<u8, MOST_TEXT>)
     requires there { 4 * places ≤ length out.now }
     requires room { length text.old + 33 * places ≤ most_text }
     ensures { text.new ≡ text.old ++ out_lines places out.now }
 {
     for element in out[..4 * places].chunks_exact(4) {
-        let mut line = line_room();
+        let mut line = [LINE_FEED; LINE_BYTES];
         frame::digits(element, &mut line[..32]);
         text.extend(&line);
     }
 }
 
-// Room for an element's digits, and a line feed behind them. In a function of its own, or the literal stands in each goal.
-fn line_room() -> [u8; LINE_BYTES]
-    ensures { result ≡ replicate 33 line_feed }
-{
-    [LINE_FEED; LINE_BYTES]
-}
-
 // The line of a refusal.
-pub fn put_refusal(refusal: Refusal, text: &mut Buffer<MOST_TEXT>)
+pub fn put_refusal(refusal: Refusal, text: &mut Buffer<u8, MOST_TEXT>)
     requires { length text.old + 5 ≤ most_text }
     ensures { text.new ≡ text.old ++ refusal_line (number refusal) }
 {

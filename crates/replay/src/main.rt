@@ -58,6 +58,7 @@ fn is_same(alloc: Global, record: &[u32]) -> Result<bool, AllocError> {
 fn call(number: u32, given: Given, out: &mut [u32]) -> Option<u32> {
     match Operation::try_from(number) {
         Err(UnknownOperation(_)) => None,
+        // By kind: the operations on points take no work, and the others take it at the front of out.
         Ok(operation) => match operation {
             Operation::OnPoints(_) => Some(calls::call(operation, given, &mut [], out)),
             Operation::OnSplit(_) | Operation::OnTable(_) => with_work(operation, given, out),

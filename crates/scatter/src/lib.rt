@@ -96,8 +96,8 @@ fn by_table(words: &[u32], weights: &[u32], out: &mut [u32])
         out.old out.new }
 {
     let inner = out.len() / 4;
-    // By number: a turn takes four elements of the table, and four rows. `chunks_exact(4 * inner)` asks that inner is not 0, which `Weighs`
-    // does not say.
+    // By number: a turn takes four elements of the table, and four rows. `chunks_exact(4 * inner)` asks that inner is not 0: a field more
+    // of `Weighs`, and a clause more of `block_rows`, which gives it.
     for j in 0..8 {
         let y = 4 * j;
         let start = y * inner;

@@ -3,7 +3,8 @@
 use Rattle.std.proofs.Common.{◌≡◌, refl, sym, ℕ, ◌≤◌, Bool, true, false, List, [], ◌∷◌, ◌++◌}
 use borrow.Author.Tests.{ltb-false}
 use mathlib.Core.Bool.{cond}
-use Rattle.table.specs.Refusals.{Test, number, verdict, most}
+use Rattle.std.specs.Prelude.{◌||◌}
+use Rattle.table.specs.Refusals.{Test, ◌gives◌, number, verdict, most}
 use Rattle.table.specs.declared.Refusal.{Refusal}
 use Rattle.table.proofs.Answers.{number_some}
 use Rattle.table.proofs.Verdicts.{Numbered, Clear, clear}
@@ -34,6 +35,19 @@ accepted ts us n e = past ts (clear ts n e)
     past : (ts : List Test) → Clear ts → verdict (ts ++ us) ≡ verdict us
     past [] h = refl
     past (t ∷ ts) h = rw h.0 (past ts h.1)
+
+-- two tests that give one number, taken as one
+pub either_holds : (a b : Bool) (n : ℕ) (ts : List Test) → (a || b) ≡ true → verdict (a gives n ∷ b gives n ∷ ts) ≡ n
+unfolding verdict
+either_holds true b n ts e = refl
+either_holds false b n ts e = rw e refl
+
+pub neither_holds : (a b : Bool) (n : ℕ) (ts : List Test) → (a || b) ≡ false → verdict (a gives n ∷ b gives n ∷ ts) ≡ verdict ts
+unfolding verdict
+neither_holds true b n ts e = absurd (cc)
+neither_holds false b n ts e = rw e refl
+
+pub ruleset either = (either_holds, neither_holds)
 
 -- the sizes of a record that is not broken
 pub record Sizes (s : Session) : Type 0 where

@@ -1,8 +1,10 @@
 // The fold session: a table arrives in pieces, and each is folded as it comes.
 #![tactic(auto)]
 
-ghost use Rattle.std.specs.Prelude.{◌≡◌, ◌≤◌, ◌&&◌, ltb};
-ghost use Rattle.table.specs.Refusals.{answer, outcome, verdict};
+ghost use Rattle.std.specs.Prelude.{◌≡◌, ◌≤◌, ◌*◌, ◌||◌, drop};
+ghost use Rattle.algebra.specs.Words.{unreduced};
+ghost use Rattle.field.specs.Field.{p};
+ghost use Rattle.table.specs.Refusals.{most, answer, outcome, verdict};
 ghost use Rattle.ledger.specs.Session.{args, no_session, nonzero, state, open_tests, record_tests, out_tests, read_answer};
 ghost use Rattle.ledger.specs.Session.{open_step, feed_answer, feed_step, close_answer, close_step};
 ghost use Rattle.session.specs.Settled.{settled};
@@ -50,7 +52,7 @@ pub fn feed(s: Session, piece: &[u32], out: &mut [u32]) -> Result<Session, Refus
     ensures { settled result s out.new ≡ feed_step (state s out.old) piece.now }
 {
     test_feed(&s, piece, out)?;
-    piece::add(s.plan, s.taken, piece, out);
+    piece::add(&s.plan, s.taken, piece, out);
     Ok(Session {
         taken: s.taken + piece.len(),
         ..s
@@ -159,19 +161,27 @@ fn test_out(s: &Session, out: &[u32]) -> Result<(), Refusal>
 }
 
 // 11: the record is none that a session has.
-#[tactic(auto, using(table::proofs::Verdicts::tests, crate::proofs::Scanning::unused))]
+#[tactic(auto, using(table::proofs::Verdicts::tests, crate::proofs::Joining::either))]
 fn test_record(s: &Session) -> Result<(), Refusal>
     ensures { answer result ≡ verdict (record_tests s.now) }
 {
     table::refuse_if(table::MOST < s.plan.n, Refusal::Broken)?;
     table::refuse_if(s.plan.n < s.plan.k, Refusal::Broken)?;
     let words = s.plan.words();
-    let unused = &s.plan.coordinates[4 * s.plan.k..];
     table::refuse_if(words < s.taken, Refusal::Broken)?;
     table::refuse_if(field::unreduced(&s.plan.scale.c), Refusal::Broken)?;
-    table::refuse_if(field::unreduced(&s.plan.coordinates), Refusal::Broken)?;
-    table::refuse_if(has_nonzero(unused), Refusal::Broken)?;
+    table::refuse_if(is_no_point(s.plan.coordinates, s.plan.k), Refusal::Broken)?;
     table::refuse_if(s.closed && s.taken < words, Refusal::Broken)
+}
+
+// A word is not below the modulus, or one behind the k coordinates is not 0. By value: read from a counted word on, the array would keep the
+// whole record in memory.
+#[tactic(auto, using(crate::proofs::Scanning::unused))]
+fn is_no_point(coordinates: [u32; plan::WORDS], k: usize) -> bool
+    requires { k ≤ most }
+    ensures { result ≡ (unreduced p coordinates || nonzero (drop (4 * k) coordinates)) }
+{
+    field::unreduced(&coordinates) || has_nonzero(&coordinates[4 * k..])
 }
 
 // A word is not 0.

@@ -47,8 +47,8 @@ pub fn of_base(table: &[u32], point: &[u32], scale: Element, work: &[u32]) -> Re
     value(table.len(), table, point, scale, work)
 }
 
-// Of the value of a table of elements: a 1 more, of the table. As one with `of_base`, as `poly::value` has it, no plainer: what
-// `split_eq::value` answers and leaves goes by the two lists, and would need a lemma each.
+// Of the value of a table of elements: a 1 more, of the table. Each has a list of its own in its contract, so a function by a width, as
+// `test_table` of `poly::value`, would stand below both, with a third list and a lemma that joins it to that of `of_base`.
 #[tactic(auto, using(table::proofs::Verdicts::tests), unfolding(crate::specs::SplitTests::ext_answer))]
 pub fn of_ext(table: &[u32], point: &[u32], scale: Element, work: &[u32]) -> Result<(), Refusal>
     ensures { answer result ≡ ext_answer table.now point.now scale work.now }

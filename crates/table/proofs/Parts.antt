@@ -96,9 +96,6 @@ module _ (a : ℕ) (ws : List ℕ) where
   pub rest_get : (i : ℕ) → get_at rest i ≡ get_at ws (a + i)
   rest_get i = ap (λ l. get_at l i) (after_is (4 * a) ws) ∙ get_drop a i ws
 
-  pub rest_elements : (m : ℕ) → elements rest 0 m ≡ elements ws a m
-  rest_elements m = rw (after_is (4 * a) ws, elements_drop a 0 m ws, add-zero)
-
 -- the first n elements are those of a list lent up to element n
 pub get_take : (n i : ℕ) (ws : List ℕ) → i < n → get_at (take (4 * n) ws) i ≡ get_at ws i
 unfolding get_at

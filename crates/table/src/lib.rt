@@ -21,20 +21,20 @@ pub const MOST: usize = 20;
 // What a call is refused for.
 #[derive(Clone, Copy, Debug, PartialEq, Eq)]
 pub enum Refusal {
-    Split,
-    NotPower,
-    TooMany,
-    Lengths,
-    Unreduced,
-    Constant,
-    NoVertex,
-    TooLong,
-    Missing,
-    Closed,
-    Broken,
-    NotFrame,
-    Coordinates,
-    NoPlace,
+    Split = 1,
+    NotPower = 2,
+    TooMany = 3,
+    Lengths = 4,
+    Unreduced = 5,
+    Constant = 6,
+    NoVertex = 7,
+    TooLong = 8,
+    Missing = 9,
+    Closed = 10,
+    Broken = 11,
+    NotFrame = 12,
+    Coordinates = 13,
+    NoPlace = 14,
 }
 
 impl Refusal {
@@ -42,22 +42,7 @@ impl Refusal {
     pub fn number(self) -> u32
         ensures { result ≡ number self }
     {
-        match self {
-            Refusal::Split => 1,
-            Refusal::NotPower => 2,
-            Refusal::TooMany => 3,
-            Refusal::Lengths => 4,
-            Refusal::Unreduced => 5,
-            Refusal::Constant => 6,
-            Refusal::NoVertex => 7,
-            Refusal::TooLong => 8,
-            Refusal::Missing => 9,
-            Refusal::Closed => 10,
-            Refusal::Broken => 11,
-            Refusal::NotFrame => 12,
-            Refusal::Coordinates => 13,
-            Refusal::NoPlace => 14,
-        }
+        self as u32
     }
 }
 
@@ -127,7 +112,7 @@ pub fn rows_differ(out: &[u32], k: usize) -> bool
     out.len() / 4 != 1 << k
 }
 
-// 2: a table of n entries is no table of variables.
+// 2: a table of n entries is no table of variables. By the count of ones, as document 01's list of forms has it.
 pub fn not_power(n: usize) -> bool
     ensures { result ≡ not_power n }
 {
@@ -156,7 +141,7 @@ pub fn rows(k: usize) -> usize
     1 << k
 }
 
-// Element i of ws.
+// Element i of ws, by number as `get_at` says it: `try_into` of a slice would bring an answer that cannot fail.
 #[tactic(auto, unfolding(crate::specs::Table::get_at))]
 pub fn get(ws: &[u32], i: usize) -> Element
     requires { 4 * i + 3 < length ws.now }
@@ -168,7 +153,8 @@ pub fn get(ws: &[u32], i: usize) -> Element
     }
 }
 
-// Element i of words that were tested.
+// Element i of words that were tested. That they were is a clause (`unreduced`), here and in the crates above: a type of tested words
+// would be made again of each part that is cut of them, and beside words that are lent as `&mut` a ghost field is not covered.
 pub fn read(ws: &[u32], i: usize) -> Element
     requires { (4 * i + 3 < length ws.now) × (unreduced p ws.now ≡ false) }
     ensures { Holds result (element_at ws.now i) }
@@ -177,17 +163,12 @@ pub fn read(ws: &[u32], i: usize) -> Element
 }
 
 // Sets element i of ws to e.
-#[tactic(auto, unfolding(crate::specs::Table::put_at))]
 pub fn put(ws: &mut [u32], i: usize, e: Element)
     requires { 4 * i + 3 < length ws.old }
     ensures { ws.new ≡ put_at ws.old i e }
 {
     let b = 4 * i;
-    // Word by word, as `put_at` says it: of `copy_from_slice` (tried) that does not follow without a proof by hand.
-    ws[b] = e.c[0];
-    ws[b + 1] = e.c[1];
-    ws[b + 2] = e.c[2];
-    ws[b + 3] = e.c[3];
+    ws[b..b + 4].copy_from_slice(&e.c);
 }
 
 // Every word becomes 0.
@@ -195,11 +176,4 @@ pub fn clear(ws: &mut [u32])
     ensures { ws.new ≡ replicate (length ws.old) 0 }
 {
     ws.fill(0)
-}
-
-// Words of 0, as many as the caller has room for. A function: a literal of so many words would stand in each goal of the caller.
-pub fn zeros<const N: usize>() -> [u32; N]
-    ensures { result ≡ replicate N 0 }
-{
-    [0u32; N]
 }

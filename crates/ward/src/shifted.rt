@@ -94,7 +94,7 @@ impl<'a> Fold<'a> {
     {
         let n = table::variables(self.table.len() / 4);
         let k = self.point.len() / 4 / 4;
-        let mut room = table::zeros::<{ plan::WORDS }>();
+        let mut room = [0u32; plan::WORDS];
         let point = byte_points::coordinates(self.point, &mut room);
         fill_tables(work, Point::of(point), self.scale);
         let plan = Plan {
@@ -113,11 +113,11 @@ impl<'a> Fold<'a> {
 fn is_unreduced(bytes: &[u8]) -> bool
     ensures { result ≡ unreduced p (words bytes.now) }
 {
-    let mut found = false;
-    for four in bytes.chunks_exact(4) {
-        found = field::or_above(found, octets::word_at(four, 0));
-    }
-    found
+    let (fours, _) = bytes.as_chunks::<4>();
+    fours.iter().fold(
+        false,
+        |found, four| field::or_above(found, octets::word_at(four, 0)),
+    )
 }
 
 // Both tables of the point, as bytes.
@@ -125,7 +125,7 @@ fn fill_tables(work: &mut [u8], point: Point, scale: Element)
     requires { Tables point scale work.old }
     ensures { work.new ≡ octets (work_words point.entry.count point.entry.words.now (from_words scale)) }
 {
-    let mut room = table::zeros::<TABLES>();
+    let mut room = [0u32; TABLES];
     let tables = &mut room[..work.len() / 4];
     work::fill(tables, point, scale);
     octets::encode(tables, work);

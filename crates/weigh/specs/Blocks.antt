@@ -11,7 +11,7 @@ use Rattle.weigh.specs.declared.blocks.SplitPoint.{SplitPoint}
 use Rattle.weigh.specs.Weigh.{Rest, block_sum}
 
 -- the rows end with, or after, the piece's words
--- A clause: it is of both together; what is of one is a ghost field of it.
+-- A clause: at each halving one split point, which is lent, goes on with two pieces, and a struct of both would be made for each.
 abbrev pub Fits : SplitPoint → Piece → Type 0
 Fits a piece = piece.from + length piece.words.now ≤ 2 ^ (a.high.count + a.low)
 

@@ -11,7 +11,7 @@ use Rattle.point.specs.declared.Point.{Point}
 use Rattle.point.specs.Points.{coordinates}
 
 -- an entry for each row of k coordinates, of so many words each
--- A clause: it is of a lent table and of the count of coordinates together.
+-- A clause: at each halving one point, which is lent, goes on with two parts of the table, and a struct of both would be made for each.
 pub record WholeTable (width k : ℕ) (ws : List ℕ) : Type 0 where
   pub count : length ws ≡ width * 2 ^ k
   pub below : unreduced p ws ≡ false

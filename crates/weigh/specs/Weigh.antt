@@ -8,12 +8,9 @@ use Rattle.table.specs.Table.{get_at, element_at, elements}
 use Rattle.table.specs.Refusals.{most}
 use Rattle.point.specs.declared.Point.{Point}
 
--- the most variables of a block, and those of a small one
+-- the most variables of a block
 abbrev pub block_variables : ℕ
 block_variables = 8
-
-abbrev pub small_block_variables : ℕ
-small_block_variables = 2
 
 -- a word for each row of k coordinates; the last may be missing
 pub record NearlyWhole (k : ℕ) (words : List ℕ) : Type 0 where

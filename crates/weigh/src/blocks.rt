@@ -110,7 +110,7 @@ impl<'a> SplitPoint<'a> {
         ensures { (result ≤ self.entry.high.count) × Together (result + self.entry.low) piece.entry }
     {
         let mut own = 0;
-        // A count that a test ends: no plainer as a `for`.
+        // `find` over 0..=count would answer an `Option`, of which it would be left to prove that it is `Some`.
         while crosses(piece.from, piece.words.len(), own + self.low) {
             own += 1;
         }

@@ -17,7 +17,7 @@ ghost use Rattle.algebra.specs.Ring.{Ops};
 ghost use Rattle.field.specs.Field.{field, from_words, Reduced, Holds};
 ghost use Rattle.table.specs.Table.{element_at};
 ghost use Rattle.weigh.specs.Entries.{WholeTable, word_at, table_value};
-ghost use Rattle.weigh.specs.Weigh.{block_variables, small_block_variables, NearlyWhole, Block};
+ghost use Rattle.weigh.specs.Weigh.{NearlyWhole, Block};
 
 use blocks::{Piece, SplitPoint};
 use entries::Entries;
@@ -33,9 +33,9 @@ pub const BLOCK: usize = 8;
 pub const SMALL_BLOCK: usize = 2;
 
 // The words of a block's table, and of a small one's.
-const BLOCK_WORDS: usize = 4 << BLOCK;
+pub const BLOCK_WORDS: usize = 4 << BLOCK;
 
-const SMALL_BLOCK_WORDS: usize = 4 << SMALL_BLOCK;
+pub const SMALL_BLOCK_WORDS: usize = 4 << SMALL_BLOCK;
 
 // The value of a table of base words, or of elements.
 pub fn value<T: Entries>(table: &[u32], point: Point) -> Element
@@ -60,7 +60,7 @@ pub fn weigh(words: &[u32], point: Point, scale: Element) -> Element
     ensures { Holds result (field.mul (from_words scale) (table_value word_at point.entry words.now)) }
 {
     let low = point.count.min(BLOCK);
-    let block = block_of(point, low, scale);
+    let block = block_of::<BLOCK_WORDS>(point, low, scale);
     SplitPoint::of(point, low, &block).part(Piece { words, from: 0 })
 }
 
@@ -71,28 +71,13 @@ fn weigh_ext(entries: &[u32], point: Point, scale: Element) -> Element
         (field.mul (from_words scale) (table_value element_at point.entry entries.now)) }
 {
     let low = point.count.min(BLOCK);
-    let block = block_of(point, low, scale);
+    let block = block_of::<BLOCK_WORDS>(point, low, scale);
     SplitPoint::of(point, low, &block).halves_ext(entries)
 }
 
-// The table of scale eq of a point's last `low` coordinates.
-pub fn block_of(point: Point, low: usize, scale: Element) -> [u32; BLOCK_WORDS]
-    requires { Reduced scale × (low ≤ point.count) × (low ≤ block_variables) }
-    ensures { Block (point.entry.count - low) low point.entry.words.now (from_words scale) result }
-{
-    filled(point, low, scale)
-}
-
-// The same for a small block: there is less to clear.
-pub fn small_block_of(point: Point, low: usize, scale: Element) -> [u32; SMALL_BLOCK_WORDS]
-    requires { Reduced scale × (low ≤ point.count) × (low ≤ small_block_variables) }
-    ensures { Block (point.entry.count - low) low point.entry.words.now (from_words scale) result }
-{
-    filled(point, low, scale)
-}
-
-// The same in so many words.
-fn filled<const WORDS: usize>(point: Point, low: usize, scale: Element) -> [u32; WORDS]
+// The table of scale eq of a point's last `low` coordinates, in as many words as the caller's block has: of a small one there is less to
+// clear. That the point has so many is a clause, here and above: the type of a split point (`blocks`) has the table, which is made here.
+pub fn block_of<const WORDS: usize>(point: Point, low: usize, scale: Element) -> [u32; WORDS]
     requires { Reduced scale × (low ≤ point.count) × (4 * 2 ^ low ≤ WORDS) }
     ensures { Block (point.entry.count - low) low point.entry.words.now (from_words scale) result }
 {

@@ -58,14 +58,8 @@ module _ (k : ℕ) {work eq0 eq1 : List ℕ} (d : Apart k work eq0 eq1) (y : ℕ
   others_rows : length eq1 / 4 ≡ 2 ^ others k
   others_rows = omega (arith, d.others_size)
 
-  pub some_rows : 0 < length eq1 / 4
-  some_rows = rw others_rows (pow_pos (others k))
-
   pub high_place : y < 2 ^ k → 4 * (y / (length eq1 / 4)) + 3 < length eq0
   high_place h = rw others_rows (omega (arith, d.first_size, high_row k y h))
-
-  pub low_place : 4 * (y % (length eq1 / 4)) + 3 < length eq1
-  low_place = rw others_rows (omega (arith, d.others_size, low_row k y))
 
   -- of the values that the calls give
   pub weight_of : y < 2 ^ k → {a b e : Element} → Holds a (element_at eq0 (y / (length eq1 / 4)))

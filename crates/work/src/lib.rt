@@ -43,7 +43,8 @@ pub fn fill(work: &mut [u32], point: Point, scale: Element)
     );
 }
 
-// The weight of row y: eq0[y / n1] eq1[y % n1].
+// The weight of row y: eq0[y / n1] eq1[y % n1]. `(work, k)` is asked for here and by `accumulate`, each called once after a `fill`: a
+// struct of both would be made for that one call.
 pub fn weight(work: &[u32], k: usize, y: usize) -> Element
     requires { Tables k work.now × (y < 2 ^ k) }
     ensures { Holds result (row_weight k work.now y) }

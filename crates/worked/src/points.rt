@@ -1,7 +1,7 @@
 // The examples on points: z = (2, 3).
 use field::Element;
 use point::equality;
-use print::{Answer, Table};
+use print::{Answer, filled};
 use std::io;
 
 const Z: [u32; 8] = [2, 0, 0, 0, 3, 0, 0, 0];
@@ -32,20 +32,20 @@ fn vertices(rt: &impl Print) -> io::Result<()> {
 fn tables(rt: &impl Print) -> io::Result<()> {
     let mut out = ROOM;
     let answer = equality::equality_weights_msb(&Z, &mut out);
-    println!(rt; "eq of z: {}", Table(answer, &out))?;
+    println!(rt; "eq of z: {}", filled(answer, &out))?;
     let answer = equality::equality_weights_lsb(&Z, &mut out);
-    println!(rt; "eq of z, lowest bit first: {}", Table(answer, &out))?;
+    println!(rt; "eq of z, lowest bit first: {}", filled(answer, &out))?;
     let answer = poly::new_next_from_point(&Z, &mut out);
-    println!(rt; "next table of z: {}", Table(answer, &out))
+    println!(rt; "next table of z: {}", filled(answer, &out))
 }
 
 // The empty point, with scale 5.
 fn empty(rt: &impl Print) -> io::Result<()> {
     let mut out = [7u32; 4];
     let answer = poly::new_from_point(&[], Element { c: [5, 0, 0, 0] }, &mut out);
-    println!(rt; "eq of the empty point, scale 5: {}", Table(answer, &out))?;
+    println!(rt; "eq of the empty point, scale 5: {}", filled(answer, &out))?;
     let answer = poly::new_next_from_point(&[], &mut out);
-    println!(rt; "its next table: {}", Table(answer, &out))
+    println!(rt; "its next table: {}", filled(answer, &out))
 }
 
 fn pairs(rt: &impl Print) -> io::Result<()> {
@@ -54,15 +54,10 @@ fn pairs(rt: &impl Print) -> io::Result<()> {
         "eval_eq of z and (5, 7): {}",
         Answer(next::eval_eq(&Z, &other))
     )?;
-    match next::eval_next(&Z, &other) {
-        Ok(parts) => {
-            let carry = parts.carry;
-            let done = parts.done;
-            let omega = parts.omega;
-            println!(rt; "eval_next of z and (5, 7): {carry} {done} {omega}")?;
-        }
-        Err(refusal) => println!(rt; "eval_next of z and (5, 7): {refusal}")?,
-    }
+    println!(rt;
+        "eval_next of z and (5, 7): {}",
+        Answer(next::eval_next(&Z, &other))
+    )?;
     println!(rt;
         "eval_select(3, z): {}",
         Answer(point::select::eval_select(3, &Z))
@@ -77,7 +72,7 @@ fn batch(rt: &impl Print) -> io::Result<()> {
     let answer = eq_batch::eval_eq_batch(2, &points, &scalars, &mut out);
     println!(rt;
         "batch of z and (0, 1) with 1 and 10: {}",
-        Table(answer, &out)
+        filled(answer, &out)
     )
 }
 

@@ -2,17 +2,13 @@
 #![tactic(auto)]
 
 use field::Element;
-use print::{Answer, Elements, Table};
+use print::{Answer, Elements, filled};
 use split_eq::{fold, scalar, value};
 use std::io;
 
 const F: [u32; 4] = [1, 4, 9, 16];
 
 const Z: [u32; 8] = [2, 0, 0, 0, 3, 0, 0, 0];
-
-fn number(a: u32) -> Element {
-    Element { c: [a, 0, 0, 0] }
-}
 
 fn main(rt: HostRuntime) -> io::Result<()> {
     values(&rt)?;
@@ -30,7 +26,7 @@ fn values(rt: &impl Print) -> io::Result<()> {
         "next value of f at z: {}",
         Answer(poly::value::eval_next_base(&F, &Z))
     )?;
-    let answer = value::eval_base(&F, &Z, number(5), &mut work);
+    let answer = value::eval_base(&F, &Z, Element::from_base(5), &mut work);
     println!(rt; "f at z, scale 5: {}", Answer(answer))?;
     println!(rt; "its work: {}", Elements(&work))
 }
@@ -39,20 +35,32 @@ fn prefix(rt: &impl Print) -> io::Result<()> {
     let point = [2, 0, 0, 0];
     let mut work = [7u32; 12];
     let mut out = [7u32; 8];
-    let answer = fold::compress_prefix(&F, &point, number(1), &mut work, &mut out);
-    println!(rt; "f folded at (2), prefix: {}", Table(answer, &out))?;
-    let answer = fold::compress_prefix_shifted(&F, &point, number(1), &mut work, &mut out);
-    println!(rt; "shifted: {}", Table(answer, &out))
+    let answer = fold::compress_prefix(&F, &point, Element::from_base(1), &mut work, &mut out);
+    println!(rt; "f folded at (2), prefix: {}", filled(answer, &out))?;
+    let answer = fold::compress_prefix_shifted(
+        &F,
+        &point,
+        Element::from_base(1),
+        &mut work,
+        &mut out,
+    );
+    println!(rt; "shifted: {}", filled(answer, &out))
 }
 
 fn suffix(rt: &impl Print) -> io::Result<()> {
     let point = [3, 0, 0, 0];
     let mut work = [7u32; 12];
     let mut out = [7u32; 8];
-    let answer = fold::compress_suffix(&F, &point, number(1), &mut work, &mut out);
-    println!(rt; "f folded at (3), suffix: {}", Table(answer, &out))?;
-    let answer = fold::compress_suffix_shifted(&F, &point, number(1), &mut work, &mut out);
-    println!(rt; "shifted: {}", Table(answer, &out))
+    let answer = fold::compress_suffix(&F, &point, Element::from_base(1), &mut work, &mut out);
+    println!(rt; "f folded at (3), suffix: {}", filled(answer, &out))?;
+    let answer = fold::compress_suffix_shifted(
+        &F,
+        &point,
+        Element::from_base(1),
+        &mut work,
+        &mut out,
+    );
+    println!(rt; "shifted: {}", filled(answer, &out))
 }
 
 // Empty point, table 7: the values are 7 without the scale, the prefix fold is 35, a shifted fold is 0.
@@ -60,33 +68,45 @@ fn constant(rt: &impl Print) -> io::Result<()> {
     let seven = [7u32; 1];
     let mut work = [7u32; 8];
     let mut out = [7u32; 4];
-    let answer = value::eval_base(&seven, &[], number(5), &mut work);
+    let answer = value::eval_base(&seven, &[], Element::from_base(5), &mut work);
     println!(rt; "a constant, scale 5: {}", Answer(answer))?;
-    let answer = value::eval_next_base(&seven, &[], number(5), &mut work);
+    let answer = value::eval_next_base(&seven, &[], Element::from_base(5), &mut work);
     println!(rt; "its next value: {}", Answer(answer))?;
     println!(rt; "its work: {}", Elements(&work))?;
-    let answer = fold::compress_prefix(&seven, &[], number(5), &mut work, &mut out);
-    println!(rt; "its prefix fold: {}", Table(answer, &out))?;
-    let answer = fold::compress_prefix_shifted(&seven, &[], number(5), &mut work, &mut out);
-    println!(rt; "shifted: {}", Table(answer, &out))
+    let answer = fold::compress_prefix(&seven, &[], Element::from_base(5), &mut work, &mut out);
+    println!(rt; "its prefix fold: {}", filled(answer, &out))?;
+    let answer = fold::compress_prefix_shifted(
+        &seven,
+        &[],
+        Element::from_base(5),
+        &mut work,
+        &mut out,
+    );
+    println!(rt; "shifted: {}", filled(answer, &out))
 }
 
 // One variable, scale 5, table 1, 4: the next value is 4.
 fn one_variable(rt: &impl Print) -> io::Result<()> {
     let point = [2, 0, 0, 0];
     let mut work = [7u32; 12];
-    let answer = value::eval_next_base(&[1, 4], &point, number(5), &mut work);
+    let answer = value::eval_next_base(&[1, 4], &point, Element::from_base(5), &mut work);
     println!(rt; "next value of 1, 4 at (2), scale 5: {}", Answer(answer))
 }
 
 fn weights(rt: &impl Print) -> io::Result<()> {
     let mut work = [7u32; 16];
     let mut out = [1u32; 16];
-    let answer = scalar::last_scalar(&Z, number(5), &mut work);
+    let answer = scalar::last_scalar(&Z, Element::from_base(5), &mut work);
     println!(rt; "last weight of z, scale 5: {}", Answer(answer))?;
-    let answer = scalar::accumulate_into(&Z, number(5), number(2), &mut work, &mut out);
+    let answer = scalar::accumulate_into(
+        &Z,
+        Element::from_base(5),
+        Element::from_base(2),
+        &mut work,
+        &mut out,
+    );
     println!(rt;
         "ones gain 5 times 2 times eq of z: {}",
-        Table(answer, &out)
+        filled(answer, &out)
     )
 }

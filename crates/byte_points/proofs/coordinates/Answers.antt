@@ -1,6 +1,6 @@
 -- The words are those of the bytes. Assumes nothing.
 use Rattle.std.proofs.Common.{◌/◌, arith, length}
-use Rattle.byte_points.proofs.Parts.{decoded}
+use Rattle.byte_points.proofs.Room.{decoded}
 use Rattle.byte_points.proofs.coordinates.Goals as goal
 
 pub returns : goal.returns

@@ -10,4 +10,4 @@ pub returns : goal.returns
 returns c =
     let side : side_byte c.in_ok-ok.field-0 ≡ byte_at c.args.bytes.now 1 = grind (arith, common_steps) in
     let weight : weight_byte c.in_ok-ok-2.field-0 ≡ byte_at c.args.bytes.now 2 = grind (arith, common_steps) in
-    opened c.args.bytes.now c.requires c.if-bytes-ne21.false side weight c.element.ensures
+    rw (c.from.ensures, c.from-2.ensures) (opened c.args.bytes.now c.requires c.if-bytes-ne21.false side weight c.element.ensures)

@@ -17,5 +17,5 @@ returns-in-Coordinate-clause-ready c =
 
 pub returns-in-Words-clause-ready : goal.returns-in-Words-clause-ready
 returns-in-Words-clause-ready c =
-    took (Words c.in-Words.words) (rw c.in-Words.is at c.requires) (rw c.as_slice.ensures.words at c.feed.ensures.value)
-    (rw c.as_slice.ensures.words at c.feed.ensures.out_after)
+    took (Words c.in-Words.words) (rw c.in-Words.is at c.requires) (rw c.as_slice.ensures.items at c.feed.ensures.value)
+    (rw c.as_slice.ensures.items at c.feed.ensures.out_after)

@@ -14,4 +14,4 @@ loop-j-preserved c =
 pub returns : goal.returns
 returns c =
     let z : c.loop-j.j ≡ 0 = omega arith in
-    rw (← c.requires) (agreed_finish _ _ _ _ z c.loop-j.invariant)
+    rw (← c.args.pair.counts) (agreed_finish _ _ _ _ z c.loop-j.invariant)

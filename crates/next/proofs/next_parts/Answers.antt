@@ -15,4 +15,4 @@ loop-j-preserved c =
 pub returns : goal.returns
 returns c =
     let z : c.loop-j.j ≡ 0 = omega arith in
-    rw (← c.requires) (next_finish _ _ _ _ z c.loop-j.invariant)
+    rw (← c.args.pair.counts) (next_finish _ _ _ _ z c.loop-j.invariant)

@@ -3,4 +3,4 @@ use Rattle.next.proofs.Pairs.{Nexting}
 use Rattle.next.proofs.next_parts.Given as goal
 
 abbrev pub invariant-loop-j : goal.invariant-loop-j
-invariant-loop-j l = Nexting l.point.words.now l.other.words.now l.point.count l.j l.carry l.done l.omega
+invariant-loop-j l = Nexting l.pair.point.words.now l.pair.other.words.now l.pair.point.count l.j l.carry l.done l.omega

@@ -13,5 +13,5 @@ returns-then-taken-inner c =
 pub returns : goal.returns
 returns c =
     repeated c.requires.0 c.places-inner.ensures c.requires.1 (omega arith)
-    (rw (read_as _ c.tail.ensures) at c.mul.ensures) c.spread.ensures
-    (rw (read_as _ c.tail-2.ensures) at c.mul-2.ensures) c.spread-2.ensures
+    (rw (read_as _ c.tail.ensures, c.point-point.ensures.words, c.point-point.ensures.count) at c.mul.ensures) c.spread.ensures
+    (rw (read_as _ c.tail-2.ensures, c.point-point.ensures.words, c.point-point.ensures.count) at c.mul-2.ensures) c.spread-2.ensures

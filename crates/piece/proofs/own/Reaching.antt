@@ -138,9 +138,3 @@ module _ (stand : Stand) (piece : Piece) {out : List ℕ} (a : Adds piece out) (
   pub untouched : first ≡ end → Gained 0 inner (row_by stand piece) out out
   unfolding row_by
   untouched e = finish (start _) (omega (arith, e))
-
-  -- the numbers of a place's word are small
-  pub word_small : {i : ℕ} → i < end → (i * stand.stride ≤ 2097152) × (stand.start + i * stand.stride ≤ 2097152)
-  word_small {i} h =
-      let m : i * stand.stride ≤ inner * stand.stride = mul-le-mul_right stand.stride (omega (arith, fits.1)) in
-      (omega (arith, m, s.within), omega (arith, m, s.within))

@@ -4,7 +4,7 @@ use Rattle.piece.proofs.piece_of.Goals as goal
 
 pub invariant_of-result : goal.invariant_of-result
 invariant_of-result c = record {
-  fits = in_table c.requires.sound c.places.ensures c.requires.within;
+  fits = rw c.point.ensures.count (in_table c.requires.sound c.places.ensures c.requires.within);
   scale_is = c.requires.sound.scale_is;
   below = c.requires.below;
 }

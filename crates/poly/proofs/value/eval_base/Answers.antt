@@ -1,7 +1,7 @@
 -- What the tests say of the table and of the point. Assumes nothing.
 use Prim.Native.Nat.{◌^◌, ◌<◌}
 use native.Mathlib.Omega.{arith}
-use mathlib.Core.Path.{◌≡◌, ◌∙◌}
+use mathlib.Core.Path.{◌∙◌}
 use lib.ListN.{length}
 use Rattle.table.proofs.Says.{accepted}
 use Rattle.point.proofs.Coordinates.{point-says}

@@ -1,15 +1,17 @@
--- A word was found, or what is left of the words decides. Assumes nothing.
-use Rattle.std.proofs.Common.{rules}
-use Rattle.ward.proofs.Testing.{start, turn, finish}
+-- A word was found before, or it is not below the modulus. Assumes nothing.
+use Rattle.std.proofs.Common.{rules, ◌≡◌, ◌||◌, ◌/◌, ◌∙◌, nat_le, length, refl, ap, map, subst}
+use Rattle.std.proofs.lemmas.Fn.{fold_over, slice_gives, fronts}
+use Rattle.algebra.specs.Words.{unreduced}
+use Rattle.field.specs.Field.{p}
+use Rattle.ward.proofs.Testing.{word, by_four, one_more}
 use Rattle.ward.proofs.shifted.is_unreduced.Goals as goal
 
-pub loop-four-init : goal.loop-four-init
-loop-four-init c = start _ (search rules) (search rules)
-
-pub loop-four-preserved : goal.loop-four-preserved
-loop-four-preserved c =
-    turn c.loop-four.invariant c.in-Some.four.now c.next.new.self.rest.now (search rules) (search rules) c.word_at.ensures (search rules)
-    c.or_above-found.ensures
-
 pub returns : goal.returns
-returns c = finish c.loop-four.invariant (search rules)
+unfolding unreduced
+returns c =
+    let bytes = c.args.bytes.now in
+    let read = ap (map word) (c.iter.ensures.rest ∙ c.as_chunks.ensures.front) ∙ by_four (length bytes / 4) bytes refl in
+    subst (λ ws. c.fold.result ≡ unreduced p ws) read
+    (fold_over fronts (λ y. y.now) _ (λ ys found. found ≡ unreduced p (map word ys)) _
+    (λ ys a x b f j k. let gained : b ≡ a || nat_le p (word x.now) = search rules in (one_more ys x.now j gained, search rules))
+    _ _ _ _ (slice_gives c.iter.result) refl c.fold.ensures.ran)

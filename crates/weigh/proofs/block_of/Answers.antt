@@ -5,7 +5,7 @@ use native.Mathlib.Omega.{arith}
 use mathlib.Core.Path.{◌≡◌}
 use Rattle.table.proofs.Parts.{elements_drop}
 use Rattle.weigh.proofs.Filling.{cleared, made}
-use Rattle.weigh.proofs.filled.Goals as goal
+use Rattle.weigh.proofs.block_of.Goals as goal
 
 pub returns : goal.returns
 returns g c =
