@@ -47,7 +47,7 @@ pub fn compress(plan: Plan, table: &[u8], out: &mut [u8])
 {
     let held = (plan.n - plan.k).min(HELD);
     let places = table::rows(held);
-    // By number: of the parts that `chunks_exact_mut` lends nothing is known, so that the proof does not close.
+    // By number: of the parts that `chunks_exact_mut` lends only their length is known after the loop, and the proof does not close.
     // `piece::sections` has the same loop of words at hand; this one is of bytes, whose sections are read in blocks.
     for j in 0..table::rows(plan.n - plan.k - held) {
         let from = places * j;
@@ -162,7 +162,7 @@ impl Rows {
         requires { Strided self.now table.now (length block.old) }
         ensures { block.new ≡ first_words (length block.old) (row_word self.now (words table.now)) }
     {
-        // By number: of the parts that `chunks_exact_mut` lends nothing is known, so that the proof does not close.
+        // By number: of the parts that `chunks_exact_mut` lends only their length is known after the loop, and the proof does not close.
         for r in 0..block.len() / self.places {
             let at = r * self.places;
             octets::decode(

@@ -11,7 +11,7 @@ ghost use Rattle.byte_points.specs.Few.{Few};
 
 use field::Element;
 use next::Parts;
-use plan::WORDS;
+use point::WORDS;
 use table::Refusal;
 
 // out, of one element, becomes eq[vertex].

@@ -34,7 +34,7 @@ abbrev pub Gains : List ℕ → List ℕ → ℕ → ℕ → ℕ → ℕ → Typ
 Gains weights words k i n x = coordinate weights words k (i + n) ≡ coordinate weights words k i + x
 
 -- words i to i + n - 1 are there
--- A clause of `gains`, and of `gain`, which gives one coordinate of what it gives.
+-- A clause: `gains` hands it to `gain`; a struct of both slices and i would be made at each turn.
 pub record Part (weights words : List ℕ) (i n : ℕ) : Type 0 where
   pub dots : Dots weights words
   pub there : i + n ≤ length words

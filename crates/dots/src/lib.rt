@@ -38,7 +38,7 @@ pub fn dot_few(weights: &[u32], words: &[u32]) -> Element
         (λ y. field.mul (element_at weights.now y) (base (get_or words.now y 0)))) }
 {
     let mut sums = [0u64; 4];
-    // By number, as in `products`.
+    // By number: `gains` takes a place in both slices, for one word and for four.
     for i in 0..words.len() {
         let gains = products::gains::<1>(weights, words, i);
         let more = std::array::from_fn(
@@ -67,7 +67,7 @@ pub fn dot_ext(weights: &[u32], entries: &[u32]) -> Element
         (λ y. field.mul (element_at weights.now y) (element_at entries.now y))) }
 {
     let mut sums = halves::none();
-    // By number, as in `products`.
+    // By number: `table::read` takes a place, here of both slices.
     for y in 0..entries.len() / 4 {
         let x = table::read(weights, y);
         let more = powers::gain(sums, x, table::read(entries, y));

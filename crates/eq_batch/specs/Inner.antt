@@ -10,7 +10,7 @@ use Rattle.point.specs.declared.Point.{Point}
 use Rattle.eq_batch.specs.Batch.{most_points, column}
 
 -- n elements from place `from` on stand in out, each reduced
--- A clause: out is lent as `&mut`, and a ghost field beside a `&mut` is not covered.
+-- A clause: a struct with out as `&mut` would be made for each call, and its fact shown again at each write through it.
 pub record Elements (from n : ℕ) (ws : List ℕ) : Type 0 where
   pub fits : 4 * (from + n) ≤ length ws
   pub reduced : (y : ℕ) → y < n → Reduced (get_at ws (from + y))

@@ -25,7 +25,7 @@ use weigh::{BLOCK, BLOCK_WORDS};
 pub const MOST_POINTS: usize = 64;
 
 // out becomes the sum. The parameters are document 01's: a struct of n, points and scalars would stand behind the tests, for `add_points`
-// alone.
+// and `gather`.
 #[tactic(auto, using(table::proofs::Outcomes::outcomes), unfolding(crate::specs::Batch::batch_answer, crate::specs::Batch::set_out))]
 pub fn eval_eq_batch(
     n: usize,
@@ -139,7 +139,7 @@ fn add_point(point: Point, scale: Element, out: &mut [u32])
     let low = point.count.min(BLOCK);
     let first = point.first(point.count - low);
     let rows = table::rows(low);
-    // By number: nothing is known of a block that `chunks_exact_mut` lent.
+    // By number: of a block that `chunks_exact_mut` lent only its length is known after the loop.
     for h in 0..table::rows(first.count) {
         let seed = scale.mul(equality::at_row(first, h));
         add_block(point, low, seed, h * rows, out);

@@ -23,8 +23,8 @@ use table::Refusal;
 // The most entries of a part.
 const PART: usize = 128;
 
-// a0 + (a1 - a0) r over the two halves. The answer of each of these is the count of entries that remain, at the front. The step is
-// each's own, a closure or `monomial`: what has one caller alone is copied into the loop, of which the compiler makes vectors.
+// a0 + (a1 - a0) r over the two halves. The answer of each of these is the count of entries that remain, at the front. Each
+// gives a step of its own: the compiler copies a function that has one caller into the loop, of which it makes vectors.
 pub fn fix_prefix_var_mut(entries: &mut [u32], r: Element) -> Result<usize, Refusal>
     ensures result_value { remaining_outcome result ≡ fix_answer entries.old r }
     ensures entries_after { entries.new ≡ fix_out Prefix entries.old r }
@@ -120,8 +120,7 @@ fn test_words(entries: &[u32]) -> Result<(), Refusal>
 }
 
 // 5 and the sums, part by part: a part's words are still at hand when they are summed. Where a later part is refused, the sums that
-// were made are taken back. h is half the count of the entries, here and below: in a struct with them it would stand beside a `&mut`,
-// where a ghost field is not covered.
+// were made are taken back. h is half the count of the entries, here and below: a struct of both would be made for this call alone.
 fn sum_halves(entries: &mut [u32], h: usize) -> Result<(), Refusal>
     requires { TwoHalves h entries.old }
     ensures result_value { answer result ≡ verdict (word_tests entries.old) }

@@ -208,7 +208,7 @@ fn word_list(bytes: &[u8], count: usize) -> Words
     words
 }
 
-// The word of the four bytes from byte b on, the highest first.
+// The word of the four bytes from byte b on, the highest first. By number: `try_into` of a slice would bring a `Result` that is never `Err`.
 fn word(bytes: &[u8], b: usize) -> u32
     requires { b + 4 ≤ length bytes.now }
     ensures { result ≡ word_at bytes.now b }

@@ -126,8 +126,8 @@ fn head_of(s: &Session) -> [u32; HEAD] {
     [
         low(s.plan.n),
         low(s.plan.k),
-        u8::from(s.plan.side) as u32,
-        u8::from(s.plan.weight) as u32,
+        s.plan.side as u32,
+        s.plan.weight as u32,
         low(s.taken),
         s.closed as u32,
         scale[0],

@@ -29,7 +29,7 @@ pub fn give_words(given: Result<Element, Refusal>, out: &mut [u32; 4]) -> u32
     give(given.map(words), out)
 }
 
-// A function, since of a closure without a clause nothing is known.
+// A function: a closure (tried) would need the clause too.
 fn words(e: Element) -> [u32; 4]
     ensures { result ≡ e.c }
 {

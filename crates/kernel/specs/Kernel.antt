@@ -7,7 +7,7 @@ use Rattle.field.specs.Field.{p, Ext, field, base, from_words, Reduced}
 use Rattle.field.specs.declared.Element.{Element}
 
 -- reduced words, k for each of n elements of out from place `from` on
--- A clause: out is lent as `&mut`, and a ghost field beside a `&mut` is not covered.
+-- A clause: a struct with out as `&mut` would be made for each call, and its fact shown again at each write through it.
 pub record Groups (k from n : ℕ) (out words : List ℕ) : Type 0 where
   pub room : 4 * (from + n) ≤ length out
   pub there : k * n ≤ length words

@@ -26,7 +26,7 @@ pub fn gain_rows<const N: usize>(
     requires reduced { Weights N weights }
     ensures { Gained from n (rows_at N weights.entry n words.now) out.old out.new }
 {
-    // By number: a turn reads words that stand n apart, and nothing is known of an element that `chunks_exact_mut` lent.
+    // By number: a turn reads words that stand n apart, and of an element that `chunks_exact_mut` lent only its length is known after the loop.
     for y in 0..n {
         let column = Strided { first: y, apart: n };
         let sum = steps::step(table::get(out, from + y), weights, words, column);
@@ -47,7 +47,7 @@ pub fn gain_groups<const N: usize>(
     requires reduced { Weights N weights }
     ensures { Gained from n (words_at N weights.entry words.now) out.old out.new }
 {
-    // By number: nothing is known of an element that `chunks_exact_mut` lent.
+    // By number: of an element that `chunks_exact_mut` lent only its length is known after the loop.
     for i in 0..n {
         let group = Strided {
             first: N * i,

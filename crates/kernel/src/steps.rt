@@ -28,7 +28,7 @@ pub fn step<const N: usize>(
     requires words { There N words.now at }
     ensures { Holds result (field.add (from_words old) (weighed N weights.entry (word_at words.now at))) }
 {
-    // Four lines: in each k is a constant index into two arrays of four.
+    // Four lines: `from_fn` would take a closure with two clauses (`dots`), no plainer.
     Element {
         c: [
             residues::residue::<N>(products(old.c[0], weights, words, at, 0)),
@@ -45,7 +45,7 @@ pub fn lowered<const N: usize>(weights: [Element; N], words: &[u32], at: Strided
     requires words { There N words.now at }
     ensures { Holds result (field.mul (weighed N weights.entry (word_at words.now at)) (base unit_inverse)) }
 {
-    // Four lines: in each k is a constant index into an array of four.
+    // Four lines, as in `step`.
     Element {
         c: [
             lowering::lower(products(0, weights, words, at, 0)),
@@ -71,8 +71,8 @@ fn products<const N: usize>(
     ensures few { result ≤ old + N * ((p - 1) * (p - 1)) }
 {
     let mut sum = old as u64;
-    // By number: a place's words stand `apart` from each other. `step_by` asks that this is not 0: a field more of `There`, which three
-    // callers would give.
+    // By number: a place's words stand `apart` from each other. By `step_by` no plainer: that `apart` is not 0 would be a field of `There`,
+    // given by its three callers.
     for t in 0..N {
         sum += word::wide(weights[t].c[k], words[t * at.apart + at.first]);
     }

@@ -8,8 +8,7 @@ use Rattle.weigh.specs.declared.blocks.Piece.{Piece as Words}
 use Rattle.moved.specs.declared.Piece.{Piece}
 use Rattle.moved.specs.Moved.{table_word, moved_by}
 
--- a block's table of a piece's last `low` coordinates, two if there are as many, has room in so many words, which are no more than a
--- block's
+-- the table of a piece's last `low` coordinates, at least two where the point has two, fits in so many words, no more than a block's
 pub record Served (piece : Piece) (low words : ℕ) : Type 0 where
   pub low_fits : low ≤ piece.point.count
   pub enough : min piece.point.count 2 ≤ low

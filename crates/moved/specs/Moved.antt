@@ -9,7 +9,8 @@ use Rattle.point.specs.Points.{coordinates}
 use Rattle.moved.specs.declared.Piece.{Piece}
 
 -- an element of out for each place of the piece's table, all reduced
--- A clause: out is lent as `&mut`, and a ghost field beside a `&mut` is not covered; what is of the piece alone are its ghost fields.
+-- A clause: a struct with out as `&mut` would be made for each call, and its fact shown again at each write through it.
+-- What is of the piece alone are its ghost fields.
 pub record Adds (piece : Piece) (out : List ℕ) : Type 0 where
   pub room : length out ≡ 4 * piece.inner
   pub out_below : unreduced p out ≡ false

@@ -39,7 +39,7 @@ impl<'a> Piece<'a> {
         }
     }
 
-    // The same of a piece that has words, by blocks of `low` variables, whose table has so many words.
+    // The same of a piece that has words, by blocks of `low` variables, each table in an array of WORDS words.
     fn by_blocks<const WORDS: usize>(&self, low: usize, out: &mut [u32])
         requires { (Adds self.now out.old × (0 < length self.now.words.now)) × Served self.now low WORDS }
         ensures { Gained 0 self.now.inner (moved_by Suffix self.now) out.old out.new }
@@ -115,7 +115,7 @@ impl<'a> Blocks<'a> {
     {
         let rows = table::rows(self.piece.point.count);
         let skip = crate::skip_of(self.piece.weight);
-        // By number: nothing is known of an element that `chunks_exact_mut` lent.
+        // By number: of an element that `chunks_exact_mut` lent only its length is known after the loop.
         for i in range.start..range.end {
             let words = self.piece.cut(i * rows + skip, i * rows + rows);
             let sum = self.split.part(words);

@@ -72,7 +72,7 @@ fn agreements(pair: Pair) -> Element
     ensures { Holds result (eval_eq field (coordinates pair.entry.point) (coordinates pair.entry.other)) }
 {
     let mut product = Element::one();
-    // By number, from the last coordinate back: two points, read at one place.
+    // By number, from the last pair back: a `zip` of both would give twice four words, to be made elements as `read` does.
     for j in (0..pair.point.count).rev() {
         let s = pair.point.read(j);
         let t = pair.other.read(j);
@@ -89,7 +89,7 @@ fn next_parts(pair: Pair) -> Parts
     let mut carry = Element::one();
     let mut done = Element::zero();
     let mut omega = Element::one();
-    // By number, from the last coordinate back: two points, read at one place.
+    // By number, from the last pair back: a `zip` of both would give twice four words, to be made elements as `read` does.
     for j in (0..pair.point.count).rev() {
         let s = pair.point.read(j);
         let t = pair.other.read(j);

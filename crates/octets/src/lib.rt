@@ -7,7 +7,7 @@
 ghost use Rattle.std.specs.Prelude.{◌≡◌, ◌+◌, ◌*◌, ◌≤◌, ◌<◌, length, take, drop};
 ghost use Rattle.octets.specs.Octets.{word_at, words, octets};
 
-// Word i of bytes.
+// Word i of bytes, by number: `try_into` of a slice would bring a `Result` that is never `Err`.
 pub fn word_at(bytes: &[u8], i: usize) -> u32
     requires { 4 * i + 3 < length bytes.now }
     ensures { result ≡ word_at bytes.now i }
@@ -32,7 +32,7 @@ pub fn encode(ws: &[u32], bytes: &mut [u8])
     requires { length bytes.old ≡ 4 * length ws.now }
     ensures { bytes.new ≡ octets ws.now }
 {
-    // By number: of the parts that `chunks_exact_mut` lends nothing is known after the loop.
+    // By number: of the parts that `chunks_exact_mut` lends only their length is known after the loop.
     for (i, w) in ws.iter().enumerate() {
         bytes[4 * i..4 * i + 4].copy_from_slice(&w.to_le_bytes());
     }

@@ -84,7 +84,7 @@ fn spread(last: &[u32], from: usize, to: usize, weight: Element, out: &mut [u32]
     ensures { Gained from (to - from) (λ i. field.mul (from_words weight) (base (get_or last.now (from + i) 0)))
         out.old out.new }
 {
-    // The place is counted: out has four words for each of last, and nothing is known of what `chunks_exact_mut` lent.
+    // The place is counted: out has four words for each of last, and of what `chunks_exact_mut` lent only its length is known after the loop.
     for (i, word) in last[from..to].iter().enumerate() {
         let place = from + i;
         let gain = weight.mul_base(*word);

@@ -62,7 +62,7 @@ impl Stand {
         }
         let eq = point::equality::at_row(piece.point, self.row);
         let weight = piece.scale.mul(eq);
-        // By number: nothing is known of an element that `chunks_exact_mut` lent.
+        // By number: of an element that `chunks_exact_mut` lent only its length is known after the loop.
         for i in first..end {
             let word = words[self.start + i * self.stride - piece.taken];
             table::put(out, i, table::read(out, i).add(weight.mul_base(word)));

@@ -17,7 +17,7 @@ pub fn by_sections(plan: Plan, table: &[u32], out: &mut [u32])
     let held = usize::min(plan.n - plan.k, HELD);
     let places = table::rows(held);
     let words = table::rows(plan.k + held);
-    // By number: of the parts that `chunks_exact_mut` lends nothing is known, so that the proof does not close.
+    // By number: of the parts that `chunks_exact_mut` lends only their length is known after the loop, and the proof does not close.
     for j in 0..table::rows(plan.n - plan.k - held) {
         let a = words * j;
         let b = a + words;

@@ -125,7 +125,7 @@ pub fn at_row(point: Point, row: usize) -> Element
 {
     let mut product = Element::one();
     let mut left = row;
-    // By number, from the last coordinate back: `chunks_exact(4).rev()` gives words, and that they are coordinate j's is left to prove.
+    // By number, from the last coordinate back: `chunks_exact(4).rev()` would give four words, to be made an element as `read` does.
     for j in (0..point.count).rev() {
         let c = point.read(j);
         let f = for_bit(left % 2, c);
@@ -142,7 +142,7 @@ pub fn from_row(point: Point, row: usize) -> Element
 {
     let mut sum = Element::one();
     let mut left = row;
-    // By number, from the last coordinate back: `chunks_exact(4).rev()` gives words, and that they are coordinate j's is left to prove.
+    // By number, from the last coordinate back: `chunks_exact(4).rev()` would give four words, to be made an element as `read` does.
     for j in (0..point.count).rev() {
         let c = point.read(j);
         sum = tail_step(left % 2, c, sum);
@@ -187,7 +187,7 @@ fn double(out: &mut [u32], n: usize, c: Element)
     ensures { Doubled n n (from_words c) out.old out.new }
 {
     let m = Multiplier::new(c);
-    // By number: nothing is known of an element that `chunks_exact_mut` lent.
+    // By number: of an element that `chunks_exact_mut` lent only its length is known after the loop.
     for i in 0..n {
         let v = table::get(out, i);
         let high = m.times(v);

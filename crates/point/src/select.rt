@@ -37,7 +37,7 @@ fn selection(var: u32, point: Point) -> Element
 {
     let mut product = Element::one();
     let mut power = var;
-    // By number, from the last coordinate back: `chunks_exact(4).rev()` gives words, and that they are coordinate j's is left to prove.
+    // By number, from the last coordinate back: `chunks_exact(4).rev()` would give four words, to be made an element as `read` does.
     for j in (0..point.count).rev() {
         let f = select_factor(power, point.read(j));
         product = f.mul(product);

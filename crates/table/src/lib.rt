@@ -112,7 +112,7 @@ pub fn rows_differ(out: &[u32], k: usize) -> bool
     out.len() / 4 != 1 << k
 }
 
-// 2: a table of n entries is no table of variables. By the count of ones, as document 01's list of forms has it.
+// 2: a table of n entries is no table of variables. By the count of ones: docs/READING.md, "Forms of document 01".
 pub fn not_power(n: usize) -> bool
     ensures { result ≡ not_power n }
 {
@@ -141,7 +141,7 @@ pub fn rows(k: usize) -> usize
     1 << k
 }
 
-// Element i of ws, by number as `get_at` says it: `try_into` of a slice would bring an answer that cannot fail.
+// Element i of ws, by number as `get_at` says it: `try_into` of a slice would bring a `Result` that is never `Err`.
 #[tactic(auto, unfolding(crate::specs::Table::get_at))]
 pub fn get(ws: &[u32], i: usize) -> Element
     requires { 4 * i + 3 < length ws.now }
@@ -154,7 +154,7 @@ pub fn get(ws: &[u32], i: usize) -> Element
 }
 
 // Element i of words that were tested. That they were is a clause (`unreduced`), here and in the crates above: a type of tested words
-// would be made again of each part that is cut of them, and beside words that are lent as `&mut` a ghost field is not covered.
+// would be made again of each part that is cut of them, and at each write of words that are lent as `&mut`.
 pub fn read(ws: &[u32], i: usize) -> Element
     requires { (4 * i + 3 < length ws.now) × (unreduced p ws.now ≡ false) }
     ensures { Holds result (element_at ws.now i) }

@@ -110,7 +110,7 @@ impl<'a> SplitPoint<'a> {
         ensures { (result ≤ self.entry.high.count) × Together (result + self.entry.low) piece.entry }
     {
         let mut own = 0;
-        // `find` over 0..=count would answer an `Option`, of which it would be left to prove that it is `Some`.
+        // By `find` no plainer: it would end by `unwrap_or` of the count, a case of its own, which `Fits` decides.
         while crosses(piece.from, piece.words.len(), own + self.low) {
             own += 1;
         }

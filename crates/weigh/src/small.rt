@@ -30,7 +30,7 @@ pub fn raised(point: Point) -> [u32; RAISED_WORDS]
     ensures { Raised point.entry.count point.entry.words.now result }
 {
     let mut out = [0u32; RAISED_WORDS];
-    // By number: nothing is known of an element that `chunks_exact_mut` lent.
+    // By number: of an element that `chunks_exact_mut` lent only its length is known after the loop.
     for j in 0..point.count {
         let r = point.read(j);
         table::put(&mut out, j, r.mul_base(Element::FACTOR));

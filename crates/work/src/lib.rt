@@ -43,8 +43,8 @@ pub fn fill(work: &mut [u32], point: Point, scale: Element)
     );
 }
 
-// The weight of row y: eq0[y / n1] eq1[y % n1]. `(work, k)` is asked for here and by `accumulate`, each called once after a `fill`: a
-// struct of both would be made for that one call.
+// The weight of row y: eq0[y / n1] eq1[y % n1]. `(work, k)` goes on to `tables`, here and in `accumulate`; why their fact is a clause:
+// `Tables` of specs/Inner.antt.
 pub fn weight(work: &[u32], k: usize, y: usize) -> Element
     requires { Tables k work.now × (y < 2 ^ k) }
     ensures { Holds result (row_weight k work.now y) }
@@ -61,7 +61,7 @@ pub fn accumulate(work: &[u32], k: usize, given: Element, out: &mut [u32])
 {
     let (eq0, eq1) = tables(work, k);
     let block = eq1.len();
-    // By number: nothing is known of a block that `chunks_exact_mut` lent.
+    // By number: of a block that `chunks_exact_mut` lent only its length is known after the loop.
     for h in 0..eq0.len() / 4 {
         let seed = given.mul(table::read(eq0, h));
         gain(&mut out[h * block..(h + 1) * block], eq1, seed);
@@ -82,7 +82,7 @@ fn gain(out: &mut [u32], rows: &[u32], seed: Element)
     ensures { out.new ≡ gained rows.now (from_words seed) out.old }
 {
     let m = Multiplier::new(seed);
-    // By number: nothing is known of an element that `chunks_exact_mut` lent.
+    // By number: of an element that `chunks_exact_mut` lent only its length is known after the loop.
     for i in 0..rows.len() / 4 {
         let sum = m.plus(table::get(out, i), table::read(rows, i));
         table::put(out, i, sum);

@@ -42,7 +42,7 @@ fn tables(rt: &impl Print) -> io::Result<()> {
 // The empty point, with scale 5.
 fn empty(rt: &impl Print) -> io::Result<()> {
     let mut out = [7u32; 4];
-    let answer = poly::new_from_point(&[], Element { c: [5, 0, 0, 0] }, &mut out);
+    let answer = poly::new_from_point(&[], Element::from_base(5), &mut out);
     println!(rt; "eq of the empty point, scale 5: {}", filled(answer, &out))?;
     let answer = poly::new_next_from_point(&[], &mut out);
     println!(rt; "its next table: {}", filled(answer, &out))
