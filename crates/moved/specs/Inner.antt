@@ -14,7 +14,7 @@ pub record Served (piece : Piece) (low words : ℕ) : Type 0 where
   pub enough : min piece.point.count 2 ≤ low
   pub small : low ≤ block_variables
   pub room : 4 * 2 ^ low ≤ words
-  pub few : words ≤ 1024
+  pub few : words ≤ 4 * 2 ^ block_variables
 
 -- places that are there, none of them before the one that the piece starts in
 pub record Reached (piece : Piece) (from to : ℕ) : Type 0 where

@@ -1,5 +1,5 @@
 // Place by place, on the suffix side. The places that a piece has words of are whole, but for the first and the last of them.
-ghost use Rattle.std.specs.Prelude.{◌≡◌, ◌+◌, ◌*◌, ◌≤◌, ◌<◌, min, length};
+ghost use Rattle.std.specs.Prelude.{◌≡◌, ◌+◌, ◌*◌, ◌^◌, ◌≤◌, ◌<◌, min, length};
 ghost use Rattle.moved.specs.Blocked.{Blocked};
 
 use crate::Piece;
@@ -123,24 +123,29 @@ impl<'a> Blocks<'a> {
         }
     }
 
-    // Whole places. Those of two words or four go all together, with one division a place and coordinate.
+    // Whole places. Those of two words or four go all together.
     fn add_whole(&self, range: Range<usize>, out: &mut [u32])
         requires { Adds self.now.piece out.old × Wholes self.now.piece range.start range.end }
         ensures { GainedIn self.now.piece range.start range.end out.old out.new }
     {
-        let rows = table::rows(self.piece.point.count);
-        let skip = crate::skip_of(self.piece.weight);
-        let block = self.split.block;
-        let a = range.start * rows - self.piece.taken;
-        let n = range.end - range.start;
-        if rows == 2 {
-            let weights = crate::weights_of::<2>(block, skip);
-            kernel::gain_groups(out, range.start, &self.piece.words[a..], n, weights);
-        } else if rows == 4 {
-            let weights = crate::weights_of::<4>(block, skip);
-            kernel::gain_groups(out, range.start, &self.piece.words[a..], n, weights);
-        } else {
-            self.add_range(range, out);
+        match table::rows(self.piece.point.count) {
+            2 => self.add_groups::<2>(range, out),
+            4 => self.add_groups::<4>(range, out),
+            _ => self.add_range(range, out),
         }
+    }
+
+    // Whole places of N words, with one division a place and coordinate.
+    fn add_groups<const N: usize>(&self, range: Range<usize>, out: &mut [u32])
+        requires whole { Adds self.now.piece out.old × Wholes self.now.piece range.start range.end }
+        requires rows { 2 ^ self.now.piece.point.count ≡ N }
+        requires few { (1 < N) × (N ≤ 4) }
+        ensures { GainedIn self.now.piece range.start range.end out.old out.new }
+    {
+        let skip = crate::skip_of(self.piece.weight);
+        let weights = crate::weights_of::<N>(self.split.block, skip);
+        let a = range.start * table::rows(self.piece.point.count) - self.piece.taken;
+        let n = range.end - range.start;
+        kernel::gain_groups(out, range.start, &self.piece.words[a..], n, weights);
     }
 }
