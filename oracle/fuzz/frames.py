@@ -1,4 +1,6 @@
-"""The program `foldframes` as a function of its input (document 01, "Frames"; document 02, (b), for the coordinates).
+"""The program `foldframes` as a function of its input.
+
+Document 01, "Frames"; document 02, (b) for the coordinates and (d) for missing words.
 
 `Program` takes the lines one at a time, as the program does; `foldframes`
 takes the whole input and gives the whole of standard output.
@@ -152,8 +154,10 @@ class Program:
     def close(self, _frame):
         self.start_words()
         self.closed = True
-        # "missing words count as 0, then each out element is a line of 32 digits"
-        out = model.fold_sparse(self.side, self.weight, self.n, self.coordinates, self.scale, self.words)
+        # "A short `03` list followed by `04` must therefore fold as the padded table does"
+        table = model.padded(self.side, self.n, self.k, self.words)
+        out = model.fold_halves(self.side, self.weight, self.n, self.coordinates, self.scale, table)
+        # "then each out element is a line of 32 digits"
         return b"".join(element_line(element) for element in out)
 
 

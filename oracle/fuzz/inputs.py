@@ -2,8 +2,8 @@
 
 from damage import BYTE_FAULTS, LINE_FAULTS, LONGEST_LINE, PLAN_FAULTS
 from draws import any_word, element, low_word, spoil
-from model import P
-from plans import Plan, any_sizes, open_line, some_line, words_line
+from model import P, PREFIX
+from plans import Plan, any_sizes, cut_words, open_line, some_line, words_line
 
 
 def small_input(rng):
@@ -14,14 +14,19 @@ def small_input(rng):
     ))
 
 
+def wide_plan(rng, n, k):
+    """Many variables, and no words yet."""
+    plan = Plan(rng)
+    plan.n, plan.k = n, k
+    plan.scale = element(rng, any_word)
+    plan.coordinates = [(index, element(rng, any_word)) for index in range(k)]
+    plan.pieces = []
+    return plan
+
+
 def wide_input(rng, n, shape):
     """Many variables and (nearly) all words: mostly zeros, so that the model stays quick."""
-    plan = Plan(rng)
-    plan.n, plan.k = n, rng.randint(n - 10, n)
-    plan.scale = element(rng, any_word)
-    plan.coordinates = [(index, element(rng, any_word)) for index in range(plan.k)]
-    plan.pieces = []
-    head = plan.lines()[:-1]
+    head = wide_plan(rng, n, rng.randint(n - 10, n)).lines()[:-1]
     full = 2 ** n // 16
     lines = [b"0310" + b"0" * 128] * (rng.randint(1, full) if shape == "short" else full)
     for place in [rng.randrange(len(lines)) for _ in range(5)] + [0, -1]:
@@ -35,7 +40,16 @@ def wide_input(rng, n, shape):
     return b"\n".join(head + lines + [b"04", b""])
 
 
-WIDE_SHAPES = ("full", "over", "short", "unreduced")
+def padded_input(rng, n, more):
+    """Many variables, the most places, one row and so many words more: the other rows are missing."""
+    plan = wide_plan(rng, n, n - 10)
+    plan.side = PREFIX
+    plan.pieces = cut_words(rng, [rng.randrange(P) for _ in range(1024 + more)])
+    return b"\n".join(plan.lines() + [b""])
+
+
+WIDE = [lambda rng, n, shape=shape: wide_input(rng, n, shape) for shape in ("full", "over", "short", "unreduced")]
+WIDE += [lambda rng, n: padded_input(rng, n, 0), lambda rng, n: padded_input(rng, n, rng.randint(1, 1023))]
 
 
 def header_input(rng):
@@ -66,11 +80,11 @@ def ordinary_input(rng):
 
 def draw_input(rng, number):
     # The first cases are the widest, so that the shortest run has them too.
-    if number < len(WIDE_SHAPES):
-        return wide_input(rng, 20, WIDE_SHAPES[number])
+    if number < len(WIDE):
+        return WIDE[number](rng, 20)
     shape = rng.random()
     if shape < 0.0015:
-        return wide_input(rng, rng.randint(11, 20), rng.choice(WIDE_SHAPES))
+        return rng.choice(WIDE)(rng, rng.randint(11, 20))
     if shape < 0.01:
         return small_input(rng)
     if shape < 0.06:

@@ -1,7 +1,8 @@
-"""The definitions of document 01, with plain integers and direct sums.
+"""The definitions of document 01, with plain integers and direct sums, and the padding of document 02.
 
 An element is a tuple of four integers below P. Nothing here is made for
-speed, and nothing here refuses: frames.py and calls.py do that.
+speed but the folds of large tables, and nothing here refuses: frames.py and
+calls.py do that.
 """
 
 P = 2013265921
@@ -120,8 +121,55 @@ def fold(side, weight, n, point, scale, words):
     ]
 
 
+def padded(side, n, k, words):
+    """The table that `foldframes` folds where words are missing (document 02, (d))."""
+    table, row = list(words), 2 ** (n - k)
+    # "on the prefix side, ... once one whole row has come"
+    if side == PREFIX and len(words) >= row:
+        while len(table) < 2 ** n:
+            # "a missing word takes the value of the word 2^(n-k) places earlier"
+            table.append(table[-row])
+    # "Where fewer words than one row came, and on the suffix side, every missing word is 0"
+    return table + [0] * (2 ** n - len(table))
+
+
+def split_tables(point, scale):
+    """The work buffer: scale times eq of the first floor(k/2) coordinates, then eq of the others."""
+    half = len(point) // 2
+    return weight_table(PLAIN, point[:half], scale) + weight_table(PLAIN, point[half:])
+
+
+# The same sums, for large tables (the self test compares them).
+
+def fold_halves(side, weight, n, point, scale, table):
+    """The fold of a whole table by halves, which is quick where rows are alike."""
+    if side == PREFIX:
+        parts, row = [table], 2 ** (n - len(point))
+    else:
+        # Each place is a table of its own, with one word a row.
+        size, row = 2 ** len(point), 1
+        parts = [table[at:at + size] for at in range(0, 2 ** n, size)]
+    return [mul(scale, place) for part in parts for place in halves(point, row, followed(weight, row, part))]
+
+
+def followed(weight, row, table):
+    """The table whose plain fold is the fold on this weight: in the place of each row the one after it."""
+    if weight == PLAIN:
+        return table
+    return table[row:] + (table[-row:] if weight == NEXT else [0] * row)
+
+
+def halves(point, row, table):
+    """The plain fold of rows of so many words. Weights add up to 1: where all rows are alike, it is that row."""
+    if table[row:] == table[:-row]:
+        return [base(word) for word in table[:row]]
+    half = len(table) // 2
+    low, high = (halves(point[1:], row, part) for part in (table[:half], table[half:]))
+    return [add(a, mul(point[0], sub(b, a))) for a, b in zip(low, high)]
+
+
 def fold_sparse(side, weight, n, point, scale, words):
-    """The same sum, with the terms of zero words left out (the self test compares them)."""
+    """The fold with the terms of zero words left out."""
     k = len(point)
     out = [ZERO] * 2 ** (n - k)
     for number, word in enumerate(words):
@@ -133,12 +181,6 @@ def fold_sparse(side, weight, n, point, scale, words):
             weighed = mul(scale, WEIGHTS[weight](point, y))
             out[i] = add(out[i], times_word(weighed, word))
     return out
-
-
-def split_tables(point, scale):
-    """The work buffer: scale times eq of the first floor(k/2) coordinates, then eq of the others."""
-    half = len(point) // 2
-    return weight_table(PLAIN, point[:half], scale) + weight_table(PLAIN, point[half:])
 
 
 # Only for the worked examples.

@@ -73,9 +73,7 @@ class Plan:
         self.close = True
 
     def draw_words(self, rng, word):
-        size = 2 ** self.n
-        most = min(size, 1024 if rng.random() < 0.02 else 64)
-        count = most if rng.random() < 0.5 else rng.randint(0, most)
+        count = drawn_count(rng, 2 ** self.n, 2 ** (self.n - self.k))
         zeros = rng.choice((0, 0, 0.5, 0.95))
         return [0 if rng.random() < zeros else word(rng) for _ in range(count)]
 
@@ -84,6 +82,15 @@ class Plan:
         lines += [coordinate_line(*part) for part in self.coordinates]
         lines += [words_line(piece) for piece in self.pieces]
         return lines + [b"04"] if self.close else lines
+
+
+def drawn_count(rng, size, row):
+    """How many words come: all, or fewer, cut anywhere, before one row, at a row's end or within a row."""
+    # Of long rows mostly less than one, so that the model stays quick.
+    most = min(size, max(1024 if rng.random() < 0.02 else 64, rng.choice((0, 0, 0, 1, 2)) * row))
+    end = row * rng.randint(1, max(1, most // row - 1))
+    within = end + rng.choice((1, row - 1, rng.randrange(row)))
+    return min(most, rng.choice((most, most, rng.randint(0, most), rng.randrange(row), end, end, within, within)))
 
 
 def cut_words(rng, words):

@@ -10,6 +10,7 @@ import calls
 import model
 from frames import foldframes
 from model import NEXT, P, PLAIN, PREFIX, SHIFTED, SUFFIX, base
+from plans import Plan
 
 F = [1, 4, 9, 16]
 Z = [base(2), base(3)]
@@ -81,8 +82,11 @@ class Definitions(unittest.TestCase):
                 words = [rng.choice((0, 1, P - 1, rng.randrange(P))) for _ in range(rng.randrange(2 ** n + 1))]
                 for side in (PREFIX, SUFFIX):
                     for weight in (PLAIN, SHIFTED, NEXT):
-                        arguments = side, weight, n, point, drawn(rng), words
-                        self.assertEqual(model.fold(*arguments), model.fold_sparse(*arguments))
+                        arguments = side, weight, n, point, drawn(rng)
+                        expected = model.fold(*arguments, words)
+                        self.assertEqual(model.fold_sparse(*arguments, words), expected)
+                        table = words + [0] * (2 ** n - len(words))
+                        self.assertEqual(model.fold_halves(*arguments, table), expected)
 
     def test_next_at_a_point(self):
         rng = random.Random(2)
@@ -101,8 +105,107 @@ class Definitions(unittest.TestCase):
             self.assertEqual([model.mul(a, b) for a in eq0 for b in eq1], model.weight_table(PLAIN, point, scale))
 
 
+def appending(word):
+    """A rule by the word that it appends; `at` is a row before the table's end, `came` how many words came."""
+    def padded(side, n, k, words):
+        table, row = list(words), 2 ** (n - k)
+        while len(table) < 2 ** n:
+            table.append(word(side, row, table, len(table) - row, len(words)))
+        return table
+    return padded
+
+
+def repeating(word):
+    """A rule that appends another word, but zeros where the request has them."""
+    return appending(lambda side, row, table, at, came:
+                     word(row, table, at, came) if side == PREFIX and came >= row else 0)
+
+
+# Rules that are not the request's.
+MISTAKES = {
+    "zeros": repeating(lambda row, table, at, came: 0),
+    "one place later": repeating(lambda row, table, at, came: table[min(at + 1, len(table) - 1)]),
+    "one place earlier": repeating(lambda row, table, at, came: table[max(at - 1, 0)]),
+    "the last word": repeating(lambda row, table, at, came: table[-1]),
+    "the first row": repeating(lambda row, table, at, came: table[at % row]),
+    "the last whole row": repeating(lambda row, table, at, came: table[came // row * row - row + at % row]),
+    "no filled word repeated": repeating(lambda row, table, at, came: table[at] if at < came else 0),
+    "only the row begun": repeating(lambda row, table, at, came: table[at] if len(table) // row == came // row else 0),
+    "only after more than one row": repeating(lambda row, table, at, came: table[at] if came > row else 0),
+    "before one whole row": appending(lambda side, row, table, at, came:
+                                      table[at] if side == PREFIX and at >= 0 else 0),
+    "the suffix side too": appending(lambda side, row, table, at, came: table[at] if came >= row else 0),
+}
+
+
+class Padding(unittest.TestCase):
+    """ "The last row stands for the missing ones" """
+
+    def test_rule(self):
+        for side, n, k, came, table in (
+                (PREFIX, 2, 1, [1, 4, 9], [1, 4, 9, 4]), (PREFIX, 2, 1, [1, 4], [1, 4, 1, 4]),
+                (PREFIX, 2, 1, [1], [1, 0, 0, 0]), (PREFIX, 2, 1, [], [0] * 4), (PREFIX, 2, 1, F, F),
+                (PREFIX, 3, 1, [1, 2, 3, 4, 5], [1, 2, 3, 4, 5, 2, 3, 4]),
+                (PREFIX, 3, 2, [1, 2, 3], [1, 2, 3, 2, 3, 2, 3, 2]),
+                (PREFIX, 2, 0, [1, 4, 9], [1, 4, 9, 0]), (PREFIX, 2, 0, F, F), (PREFIX, 2, 2, [], [0] * 4),
+                (PREFIX, 2, 2, [7], [7] * 4), (PREFIX, 2, 2, [1, 4, 9], [1, 4, 9, 9]),
+                (PREFIX, 0, 0, [], [0]), (PREFIX, 0, 0, [7], [7]),
+                (SUFFIX, 2, 1, [1, 4, 9], [1, 4, 9, 0]), (SUFFIX, 2, 1, F, F), (SUFFIX, 2, 2, [7], [7, 0, 0, 0])):
+            self.assertEqual(model.padded(side, n, k, came), table)
+
+    def test_every_cut(self):
+        """Each place has, beside the words that came, its last one with the weights of its missing rows."""
+        rng = random.Random(5)
+        for n, k in [(n, k) for n in range(5) for k in range(n + 1)]:
+            point, scale, words = [drawn(rng) for _ in range(k)], drawn(rng), [rng.randrange(P) for _ in range(2 ** n)]
+            for weight in (PLAIN, SHIFTED, NEXT):
+                for count in range(2 ** (n - k), 2 ** n + 1):
+                    table = model.padded(PREFIX, n, k, words[:count])
+                    out = self.by_missing_rows(weight, n, point, scale, words[:count])
+                    self.assertEqual(model.fold(PREFIX, weight, n, point, scale, table), out)
+                    self.assertEqual(model.fold_halves(PREFIX, weight, n, point, scale, table), out)
+
+    def by_missing_rows(self, weight, n, point, scale, words):
+        row, weights = 2 ** (n - len(point)), model.weight_table(weight, point, scale)
+        out = model.fold(PREFIX, weight, n, point, scale, words)
+        for i in range(row):
+            came = words[i::row]
+            missing = model.total(weights[len(came):])
+            out[i] = model.add(out[i], model.times_word(missing, came[-1]))
+        return out
+
+    def test_cuts(self):
+        """Drawn inputs are cut in each way, on both sides and on each weight."""
+        cuts, rng = set(), random.Random(7)
+        for plan in (Plan(rng) for _ in range(1000)):
+            came, row = sum(map(len, plan.pieces)), 2 ** (plan.n - plan.k)
+            cut = ("none" if came == 0 else "all" if came == 2 ** plan.n else "before one row" if came < row
+                   else "within a row" if came % row else "at a row's end")
+            cuts.add((plan.side, plan.weight, cut))
+        self.assertEqual(len(cuts), 2 * 3 * 5)
+
+    def test_mistakes(self):
+        """Drawn inputs tell each of them, on each weight."""
+        left = {(name, weight) for name in MISTAKES for weight in (PLAIN, SHIFTED, NEXT)}
+        rng = random.Random(6)
+        for plan in filter(lambda plan: left and plan.n <= 6, (Plan(rng) for _ in range(2000))):
+            words = [word for piece in plan.pieces for word in piece]
+            point = [coordinate for _, coordinate in plan.coordinates]
+
+            def out(rule):
+                table = rule(plan.side, plan.n, plan.k, words)
+                return model.fold_halves(plan.side, plan.weight, plan.n, point, plan.scale, table)
+            right = out(model.padded)
+            left -= {(name, weight) for name, weight in left if weight == plan.weight and out(MISTAKES[name]) != right}
+        self.assertEqual(left, set())
+
+
 def element(c0, c1=0, c2=0, c3=0):
     return "%08x%08x%08x%08x" % (c0, c1, c2, c3)
+
+
+def out_lines(*numbers):
+    return "".join(element(number % P) + "\n" for number in numbers)
 
 
 def open_line(n, k, side=0, weight=0, scale=1):
@@ -112,7 +215,7 @@ def open_line(n, k, side=0, weight=0, scale=1):
 OPEN = open_line(2, 1)
 POINT = "0200" + element(2)
 WORDS = "030400000001000000040000000900000010"
-OUT = element(9) + "\n" + element(16) + "\n"
+OUT = out_lines(9, 16)
 BAD = "%08x" % P
 
 
@@ -133,17 +236,15 @@ class Frames(unittest.TestCase):
         ], "00000009000000000000000000000000\n00000010000000000000000000000000\n")
 
     def test_worked(self):
-        def out(*numbers):
-            return "".join(element(number % P) + "\n" for number in numbers)
         for side, weight, z, answer in (
                 (0, 0, 2, (17, 28)), (0, 1, 2, (-9, -16)), (1, 0, 3, (10, 30)), (1, 1, 3, (-8, -32))):
-            self.says([open_line(2, 1, side, weight), "0200" + element(z), WORDS, "04"], out(*answer))
+            self.says([open_line(2, 1, side, weight), "0200" + element(z), WORDS, "04"], out_lines(*answer))
         z = ["0200" + element(2), "0201" + element(3)]
-        self.says([open_line(2, 2)] + z + [WORDS, "04"], out(50))
-        self.says([open_line(2, 2, 1, 2)] + z + [WORDS, "04"], out(13))
-        self.says([open_line(0, 0, 0, 0, 5), "030100000007", "04"], out(35))
-        self.says([open_line(0, 0, 0, 1, 5), "030100000007", "04"], out(0))
-        self.says([open_line(0, 0, 0, 2, 5), "030100000007", "04"], out(35))
+        self.says([open_line(2, 2)] + z + [WORDS, "04"], out_lines(50))
+        self.says([open_line(2, 2, 1, 2)] + z + [WORDS, "04"], out_lines(13))
+        self.says([open_line(0, 0, 0, 0, 5), "030100000007", "04"], out_lines(35))
+        self.says([open_line(0, 0, 0, 1, 5), "030100000007", "04"], out_lines(0))
+        self.says([open_line(0, 0, 0, 2, 5), "030100000007", "04"], out_lines(35))
 
     def test_ends(self):
         self.assertEqual(foldframes(b""), b"ff09\n")
@@ -200,7 +301,19 @@ class Frames(unittest.TestCase):
         self.says([OPEN, POINT, WORDS, "0301" + BAD], "ff05\n")
         self.says([OPEN, POINT, WORDS, "030100000000"], "ff08\n")
         self.says([open_line(2, 1, 0, 2), POINT, "0300", WORDS, "0300", "04"], OUT)
-        self.says([open_line(1, 0), "0301%08x" % (P - 1), "04"], element(P - 1) + "\n" + element(0) + "\n")
+        self.says([open_line(1, 0), "0301%08x" % (P - 1), "04"], out_lines(P - 1, 0))
+
+    def test_missing(self):
+        """Of 1, 4, 9 the fourth word is 4 on the prefix side; of 1 and on the suffix side all missing are 0."""
+        three, one = "0303000000010000000400000009", "030100000001"
+        for side, weight, words, answer in (
+                (0, 0, three, (17, 4)), (0, 1, three, (-9, -4)), (0, 2, three, (9, 4)),
+                (0, 0, one, (-1, 0)), (0, 1, one, (0, 0)), (0, 2, one, (0, 0)),
+                (1, 0, three, (7, -9)), (1, 1, three, (-4, 0)), (1, 2, three, (4, 0))):
+            lines = [open_line(2, 1, side, weight), POINT, words]
+            self.says(lines + ["04"], out_lines(*answer))
+            self.says(lines + ["0300", "04", ""], out_lines(*answer) + "ff0a\n")
+            self.says(lines, "ff09\n")
 
 
 def point_bytes(*numbers):

@@ -17,14 +17,14 @@ use Rattle.table.proofs.Parts.{unreduced_put}
 use Rattle.table.proofs.Tests.{unreduced_table}
 use Rattle.plan.specs.Plan.{places, gained_by}
 use Rattle.plan.specs.Sound as plan
+use Rattle.padding.specs.Last.{missing_words, Keeps, Pads}
+use Rattle.padding.proofs.Lasting.{kept_on_length, kept_on_below}
 use Rattle.field.specs.declared.Element.{Element}
 use Rattle.frame.specs.declared.Opening.{Opening}
 use Rattle.frame.specs.declared.Frame.{Frame}
 use Rattle.frame.specs.declared.Frame.TheVariants.{Open, Coordinate, Words, Close}
-use Rattle.runs.specs.declared.Phase.{Phase}
-use Rattle.runs.specs.declared.Phase.TheVariants.{Done}
 use Rattle.runs.specs.declared.Reader.{Reader}
-use Rattle.runs.specs.Reader.{most_places, started, opened, noted, counted, taken, used, gained, out_by, Ready}
+use Rattle.runs.specs.Reader.{most_places, started, opened, noted, counted, done, taken, used, gained, out_by, last_by, Ready, LastReady}
 use Rattle.frames.specs.Inner.{Takes}
 use Rattle.runs.proofs.Accepted.{Opens, Notes, Feeds}
 use Rattle.runs.proofs.Steps.{accepted}
@@ -52,6 +52,14 @@ at_start_zeros e =
     at_start _ (ap length e ∙ length-replicate {A = ℕ} (4 * 2 ^ most_places) 0)
     (ap (unreduced p) e ∙ unreduced_zeros p p_pos (4 * 2 ^ most_places))
 
+-- and last words that are 0
+pub last_zeros : {last : List ℕ} → last ≡ replicate (2 ^ most_places) 0 → LastReady last
+last_zeros e =
+    record {
+      room = ap length e ∙ length-replicate {A = ℕ} (2 ^ most_places) 0;
+      below = ap (unreduced p) e ∙ unreduced_zeros p p_pos (2 ^ most_places);
+    }
+
 -- the words of out that the session has
 pub used_fits : {r : Reader} {out : List ℕ} → Ready r out → used r ≤ length out
 used_fits d = omega (arith, d.room, pow_mono d.few)
@@ -72,10 +80,6 @@ module _ (r : Reader) (out : List ℕ) (d : Ready r out) where
         out_below = unreduced_zeros p p_pos (length out);
       }
 
-  -- of the same session
-  same_keeps : (phase : Phase) → Ready (record { phase = phase; session = r.session; came = r.came }) out
-  same_keeps phase = record { sound = d.sound; few = d.few; within = d.within; room = d.room; out_below = d.out_below }
-
   noted_keeps : (index : ℕ) (coordinate : Element) → Notes r index coordinate → Ready (noted r index coordinate) out
   noted_keeps index coordinate h =
       let s = d.sound in
@@ -92,20 +96,49 @@ module _ (r : Reader) (out : List ℕ) (d : Ready r out) where
         out_below = d.out_below;
       }
 
+  -- out gains words that follow those taken
+  module _ (words : List ℕ) where
+    abbrev new : List ℕ
+    new = gained_by r.session.plan r.session.taken words (take (used r) out)
+
+    gained_room : length (gained r words out) ≡ 4 * 2 ^ most_places
+    gained_room =
+        let n : length new ≡ used r = table_length (places r.session.plan) _ in
+        length-append new (drop (used r) out) ∙ omega (arith, n, length-drop (used r) out, used_fits d, d.room)
+
+    gained_below : unreduced p (gained r words out) ≡ false
+    gained_below =
+        unreduced_append p new (drop (used r) out) (unreduced_table (places r.session.plan) _)
+        (unreduced_drop p p_pos (used r) out d.out_below)
+
   counted_keeps : (words : List ℕ) → Feeds r words → Ready (counted r words) (gained r words out)
   counted_keeps words h =
-      let plan = r.session.plan in
-      let new : List ℕ = gained_by plan r.session.taken words (take (used r) out) in
-      let n : length new ≡ used r = table_length (places plan) _ in
-      record {
-        sound = d.sound;
-        few = d.few;
-        within = h.within;
-        room = length-append new (drop (used r) out) ∙ omega (arith, n, length-drop (used r) out, used_fits d, d.room);
-        out_below =
-            unreduced_append p new (drop (used r) out) (unreduced_table (places plan) _)
-            (unreduced_drop p p_pos (used r) out d.out_below);
-      }
+      record { sound = d.sound; few = d.few; within = h.within; room = gained_room words; out_below = gained_below words }
+
+  done_keeps : (words : List ℕ) → Ready (done r) (gained r words out)
+  done_keeps words =
+      record { sound = d.sound; few = d.few; within = d.within; room = gained_room words; out_below = gained_below words }
+
+  -- and last has a word of each place
+  module _ {last : List ℕ} (l : LastReady last) where
+    last_fits : places r.session.plan ≤ length last
+    last_fits = omega (arith, l.room, pow_mono d.few)
+
+    -- what an `03` hands to the last words
+    pub hands_keeps : Keeps r.session.plan last
+    hands_keeps = record { sound = d.sound; last_room = last_fits }
+
+    -- what a `04` hands to the padding
+    pub hands_last : Pads r.session.plan r.session.taken last (take (used r) out)
+    hands_last =
+        record {
+          sound = d.sound;
+          within = d.within;
+          last_room = last_fits;
+          last_below = l.below;
+          room = length-take-le (used r) out (used_fits d);
+          out_below = unreduced_take p p_pos (used r) out d.out_below;
+        }
 
 -- what an `02` hands to `note`
 pub hands_coordinate : {r : Reader} {index : ℕ} {coordinate : Element} {out : List ℕ} → Takes r (Coordinate index coordinate) out
@@ -132,14 +165,21 @@ hands {r} {words} {out} t =
     }
 
 -- an accepted line
-pub keeps : (f : Frame) {r : Reader} {out : List ℕ} → Takes r f out → Ready (taken r (Some f)) (out_by r (Some f) out)
-keeps (Open o) {r} {out} t = opened_keeps r out t.ready o (accepted r (Some (Open o)) t.accepted).1
-keeps (Coordinate i e) {r} {out} t = noted_keeps r out t.ready i e (accepted r (Some (Coordinate i e)) t.accepted).1
-keeps (Words ws) {r} {out} t = counted_keeps r out t.ready ws (feeds t)
-keeps Close {r} {out} t = same_keeps r out t.ready Done
+pub keeps : (f : Frame) {r : Reader} {out : List ℕ} (last : List ℕ) → Takes r f out → Ready (taken r (Some f)) (out_by r (Some f) out last)
+keeps (Open o) {r} {out} last t = opened_keeps r out t.ready o (accepted r (Some (Open o)) t.accepted).1
+keeps (Coordinate i e) {r} {out} last t = noted_keeps r out t.ready i e (accepted r (Some (Coordinate i e)) t.accepted).1
+keeps (Words ws) {r} {out} last t = counted_keeps r out t.ready ws (feeds t)
+keeps Close {r} {out} last t = done_keeps r out t.ready (missing_words r.session.plan r.session.taken last)
+
+pub last_keeps : (f : Frame) {r : Reader} {out last : List ℕ} → Takes r f out → LastReady last → LastReady (last_by r (Some f) last)
+last_keeps (Open o) t l = l
+last_keeps (Coordinate i e) t l = l
+last_keeps (Words ws) {r} {out} {last} t l =
+    record { room = kept_on_length _ _ _ ws last ∙ l.room; below = kept_on_below _ _ _ ws last (feeds t).below l.below }
+last_keeps Close t l = l
 
 -- what the code of a frame gives
-pub took : (f : Frame) {r : Reader} {out : List ℕ} {x : Reader} {w : List ℕ} → Takes r f out → x ≡ taken r (Some f)
-    → w ≡ out_by r (Some f) out
+pub took : (f : Frame) {r : Reader} {out : List ℕ} (last : List ℕ) {x : Reader} {w : List ℕ} → Takes r f out → x ≡ taken r (Some f)
+    → w ≡ out_by r (Some f) out last
     → Ready x w
-took f t g h = rw (g, h) (keeps f t)
+took f last t g h = rw (g, h) (keeps f last t)

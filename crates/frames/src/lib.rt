@@ -1,4 +1,4 @@
-// One step of the program: a state and a frame give the next state, or a refusal, and out.
+// One step of the program: a state and a frame give the next state, or a refusal, and out and the last word of each place.
 //
 //     Start --01--> Points --03--> Words --04--> Done
 //                     02 |  04       03
@@ -9,7 +9,8 @@
 ghost use Rattle.std.specs.Prelude.{◌≡◌, ◌<◌, IfOk, Some};
 ghost use Rattle.table.specs.Refusals.{answer, verdict, most};
 ghost use Rattle.frame.specs.declared.Frame.TheVariants.{Words};
-ghost use Rattle.runs.specs.Reader.{with_coordinate, session_by, missing, open_tests, coordinate_tests, words_tests, close_tests, frame_tests, shared_tests, started, opened, noted, counted, taken, gained, out_by, standing, turn, turned, out_after, Ready};
+ghost use Rattle.padding.specs.Last.{missing_words};
+ghost use Rattle.runs.specs.Reader.{with_coordinate, session_by, missing, open_tests, coordinate_tests, words_tests, close_tests, frame_tests, shared_tests, started, opened, noted, counted, done, taken, gained, out_by, last_by, standing, turn, turned, out_after, last_after, Ready, LastReady};
 ghost use Rattle.runs.specs.Inner.{marked_as};
 ghost use Rattle.frames.specs.Inner.{InLimits, Takes};
 
@@ -42,17 +43,25 @@ pub fn start() -> Reader
     }
 }
 
-// One line's frame, or none. out has room for 2^10 elements. What it requires holds of `start` with any out of that size whose words are
-// below p (`at_start` of proofs/Keeping.antt), and each step gives it for the next.
-pub fn step(reader: Reader, frame: Option<Frame>, out: &mut [u32]) -> Result<Reader, Refusal>
-    requires { Ready reader out.old }
+// One line's frame, or none. out has room for 2^10 elements, last for a word of as many places. What it requires holds of `start` with any
+// out of that size whose words are below p (`at_start` of proofs/Keeping.antt) and any such last, and each step gives it for the next.
+pub fn step(
+    reader: Reader,
+    frame: Option<Frame>,
+    out: &mut [u32],
+    last: &mut [u32],
+) -> Result<Reader, Refusal>
+    requires ready { Ready reader out.old }
+    requires last_ready { LastReady last.old }
     ensures result_value { turn result reader ≡ turned reader frame }
-    ensures out_after { out.new ≡ out_after reader frame out.old }
+    ensures out_after { out.new ≡ out_after reader frame out.old last.old }
+    ensures last_after { last.new ≡ last_after reader frame last.old }
     ensures ready { Ready (standing result reader) out.new }
+    ensures last_ready { LastReady last.new }
 {
     let frame = test_place(reader.phase, frame)?;
     test_frame(&reader, &frame)?;
-    Ok(take(reader, frame, out))
+    Ok(take(reader, frame, out, last))
 }
 
 // 10, 12: the frame, where such a line may come.
@@ -130,11 +139,14 @@ fn lacks_coordinates(reader: &Reader) -> bool
 }
 
 // What an accepted line does.
-fn take(reader: Reader, frame: Frame, out: &mut [u32]) -> Reader
-    requires { Takes reader frame out.old }
+fn take(reader: Reader, frame: Frame, out: &mut [u32], last: &mut [u32]) -> Reader
+    requires takes { Takes reader frame out.old }
+    requires last_ready { LastReady last.old }
     ensures value { result ≡ taken reader (Some frame) }
-    ensures out_after { out.new ≡ out_by reader (Some frame) out.old }
+    ensures out_after { out.new ≡ out_by reader (Some frame) out.old last.old }
+    ensures last_after { last.new ≡ last_by reader (Some frame) last.old }
     ensures ready { Ready result out.new }
+    ensures last_ready { LastReady last.new }
 {
     match frame {
         Frame::Open(opening) => {
@@ -142,8 +154,8 @@ fn take(reader: Reader, frame: Frame, out: &mut [u32]) -> Reader
             open(opening)
         }
         Frame::Coordinate { index, coordinate } => note(reader, index, coordinate),
-        Frame::Words(words) => feed(reader, words.as_slice(), out),
-        Frame::Close => mark(reader, Phase::Done, reader.session.taken),
+        Frame::Words(words) => feed(reader, words.as_slice(), out, last),
+        Frame::Close => close(reader, last, out),
     }
 }
 
@@ -180,17 +192,35 @@ fn with_coordinate(session: Session, i: usize, coordinate: Element) -> Session
     next
 }
 
-// The words go to their places; beneath the session's tests, since out and the record are the program's own.
-fn feed(reader: Reader, words: &[u32], out: &mut [u32]) -> Reader
-    requires { Takes reader (Words words.now) out.old }
+// The words go to their places, and the last one of each is kept; beneath the session's tests, since out and the record are the program's
+// own.
+fn feed(reader: Reader, words: &[u32], out: &mut [u32], last: &mut [u32]) -> Reader
+    requires takes { Takes reader (Words words.now) out.old }
+    requires last_ready { LastReady last.old }
     ensures value { result ≡ counted reader words.now }
     ensures out_after { out.new ≡ gained reader words.now out.old }
+    ensures last_after { last.new ≡ last_by reader (Some (Words words.now)) last.old }
 {
     let taken = reader.session.taken;
     let plan = &reader.session.plan;
     let used = 4 * plan.places();
     piece::add(plan, taken, words, &mut out[..used]);
+    padding::keep(plan, taken, words, last);
     mark(reader, Phase::Words, taken + words.len())
+}
+
+// At `04`: the missing words go to their places.
+fn close(reader: Reader, last: &[u32], out: &mut [u32]) -> Reader
+    requires ready { Ready reader out.old }
+    requires last_ready { LastReady last.now }
+    ensures value { result ≡ done reader }
+    ensures out_after { out.new ≡ gained reader (missing_words reader.session.plan reader.session.taken last.now) out.old }
+{
+    let plan = reader.session.plan;
+    let taken = reader.session.taken;
+    let used = 4 * plan.places();
+    padding::pad(plan, taken, last, &mut out[..used]);
+    mark(reader, Phase::Done, taken)
 }
 
 // The same state in another phase, with so many words taken.

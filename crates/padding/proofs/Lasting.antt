@@ -1,4 +1,4 @@
--- The laws of the last words: how many they are, how they go over a list, and that they are what they are called. Assumes nothing.
+-- The laws of the last words: how many they are, that they stay reduced, and that they are what they are called. Assumes nothing.
 use mathlib.Core.Path.{◌≡◌, refl, sym, ap, ◌∙◌}
 use mathlib.Core.Logic.{◌≢◌}
 use mathlib.Core.Bool.{false}
@@ -12,7 +12,9 @@ use lib.Seq.{append_snoc, get_or-append_seam, get_or-set_same, get_or-set_other}
 use Rattle.algebra.specs.Words.{unreduced}
 use Rattle.algebra.proofs.Words.{below, each_below, unreduced_set}
 use Rattle.field.specs.Field.{p, p_pos}
-use Rattle.padding.specs.Last.{kept}
+use Rattle.multilinear.specs.declared.Side.{Side}
+use Rattle.multilinear.specs.declared.Side.TheVariants.{Prefix, Suffix}
+use Rattle.padding.specs.Last.{kept, kept_on}
 
 -- last has, in each place of a row, the last word of that place among ws
 pub record LastOf (inner : ℕ) (ws last : List ℕ) : Type 0 where
@@ -28,15 +30,6 @@ unfolding kept
 kept_length inner t [] last = refl
 kept_length inner t (w ∷ ws) last = kept_length inner (suc t) ws (set last (t % inner) w) ∙ length-set last (t % inner) w
 
--- words, and then the words behind them
-pub kept_append : (inner t : ℕ) (ws vs last : List ℕ) → kept inner t (ws ++ vs) last ≡ kept inner (t + length ws) vs (kept inner t ws last)
-unfolding kept
-kept_append inner t [] vs last = let q : t ≡ t + 0 = omega arith in ap (λ n. kept inner n vs last) q
-kept_append inner t (w ∷ ws) vs last =
-    let q : suc t + length ws ≡ t + suc (length ws) = omega arith in
-    kept_append inner (suc t) ws vs (set last (t % inner) w)
-    ∙ ap (λ n. kept inner n vs (kept inner (suc t) ws (set last (t % inner) w))) q
-
 -- reduced ones stay reduced
 pub kept_below : (inner t : ℕ) (ws last : List ℕ) → unreduced p ws ≡ false → unreduced p last ≡ false
     → unreduced p (kept inner t ws last) ≡ false
@@ -45,6 +38,16 @@ kept_below inner t [] last a b = b
 kept_below inner t (w ∷ ws) last a b =
     kept_below inner (suc t) ws (set last (t % inner) w) (each_below p ws (λ i. below p (w ∷ ws) a p_pos (suc i)))
     (unreduced_set p p_pos last (t % inner) w (below p (w ∷ ws) a p_pos 0) b)
+
+-- on either side
+pub kept_on_length : (side : Side) (inner t : ℕ) (ws last : List ℕ) → length (kept_on side inner t ws last) ≡ length last
+kept_on_length Prefix inner t ws last = kept_length inner t ws last
+kept_on_length Suffix inner t ws last = refl
+
+pub kept_on_below : (side : Side) (inner t : ℕ) (ws last : List ℕ) → unreduced p ws ≡ false → unreduced p last ≡ false
+    → unreduced p (kept_on side inner t ws last) ≡ false
+kept_on_below Prefix inner t ws last a b = kept_below inner t ws last a b
+kept_on_below Suffix inner t ws last a b = b
 
 -- no word came: any will do
 pub last_none : (inner : ℕ) (last : List ℕ) → LastOf inner [] last

@@ -1,14 +1,15 @@
--- The laws of the padded table: the missing words by the last words, its length, and that it is reduced. Assumes nothing.
+-- The laws of the padded table: the missing words by the last ones, its length, its front, and that it is reduced. Assumes nothing.
 use mathlib.Core.Path.{◌≡◌, refl, sym, ap, ◌∙◌}
 use mathlib.Core.Bool.{Bool, true, false, cond}
 use Prim.Native.Nat.{ℕ, zero, suc, ◌+◌, ◌-◌, ◌%◌, ◌≤◌, ◌<◌}
 use native.Mathlib.Nat.{mod-eq-sub-mod}
 use native.Mathlib.Omega.{arith}
 use mathlib.Core.List.{List, [], ◌∷◌, ◌++◌, append-nil}
-use lib.ListN.{length, get_or}
-use lib.Seq.{append_snoc}
+use lib.ListN.{length, get_or, take, drop, take-append-drop}
+use lib.Seq.{append_snoc, take_all}
 use lib.Pow.{pow_pos}
 use borrow.Author.Tests.{leb-true}
+use Rattle.std.proofs.lemmas.List.{take-append-le}
 use Rattle.algebra.specs.Words.{unreduced}
 use Rattle.algebra.proofs.Words.{below, each_below, unreduced_cons, unreduced_append}
 use Rattle.multilinear.specs.declared.Side.{Side}
@@ -38,29 +39,29 @@ row_earlier inner ws last s r o =
     sym (ap (λ n. get_or last n 0) (mod-eq-sub-mod r) ∙ o.is (length ws - inner) (omega arith) (omega arith))
 
 -- the missing words are the last words of their places, or 0
-missing : (b : Bool) (inner m : ℕ) (came last : List ℕ) → 0 < inner → (b ≡ true → inner ≤ length came) → LastOf inner came last
+missing : (b : Bool) (inner m : ℕ) (came last : List ℕ) → 0 < inner → (b ≡ true → (inner ≤ length came) × LastOf inner came last)
     → came ++ words_from (λ t. cond b (get_or last (t % inner) 0) 0) (length came) m
     ≡ appended m (λ ws. cond b (get_or ws (length ws - inner) 0) 0) came
-missing false inner m came last s r o = words_appended (λ ws. 0) (λ t. 0) (λ ws. LastOf inner came last) (λ ws g. refl) (λ ws g. g) m came o
-missing true inner m came last s r o =
+missing false inner m came last s r = words_appended (λ ws. 0) (λ t. 0) (λ ws. Unit {0}) (λ ws g. refl) (λ ws g. tt) m came tt
+missing true inner m came last s r =
     words_appended (λ ws. get_or ws (length ws - inner) 0) (λ t. get_or last (t % inner) 0) (λ ws. (inner ≤ length ws) × LastOf inner ws last)
     (λ ws g. row_earlier inner ws last s g.0 g.1)
     (λ ws g. (
       omega (arith, length_more ws (get_or ws (length ws - inner) 0), g.0),
       one_more inner ws last last _ g.1 (sym (row_earlier inner ws last s g.0 g.1)) (λ i n. refl),
     ))
-    m came (r refl, o)
+    m came (r refl)
 
 -- only a row that came is repeated
-repeats_row : (side : Side) (inner came : ℕ) → repeats side inner came ≡ true → inner ≤ came
-repeats_row Prefix inner came e = leb-true inner came e
+repeats_row : (side : Side) (inner came : ℕ) → repeats side inner came ≡ true → (inner ≤ came) × (side ≡ Prefix)
+repeats_row Prefix inner came e = (leb-true inner came e, refl)
 repeats_row Suffix inner came e = absurd (let z : ◌≡◌ {A = ℕ} 0 1 = cc in omega arith)
 
-pub padded_is : (plan : Plan) (came last : List ℕ) → LastOf (places plan) came last
+pub padded_is : (plan : Plan) (came last : List ℕ) → (plan.side ≡ Prefix → LastOf (places plan) came last)
     → came ++ missing_words plan (length came) last ≡ padded_table plan came
 padded_is plan came last o =
     missing (repeats plan.side (places plan) (length came)) (places plan) (capacity plan - length came) came last
-    (pow_pos (plan.n - plan.k)) (repeats_row plan.side (places plan) (length came)) o
+    (pow_pos (plan.n - plan.k)) (λ e. let h = repeats_row plan.side (places plan) (length came) e in (h.0, o h.1))
 
 -- no word is missing
 pub padded_full : (plan : Plan) (ws : List ℕ) → capacity plan ≤ length ws → padded_table plan ws ≡ ws
@@ -77,6 +78,19 @@ appended_length (suc m) word ws =
 
 pub padded_length : (plan : Plan) (ws : List ℕ) → length ws ≤ capacity plan → length (padded_table plan ws) ≡ capacity plan
 padded_length plan ws h = appended_length (capacity plan - length ws) (missing_word plan (length ws)) ws ∙ omega arith
+
+-- the words that came stand in front
+appended_front : (m : ℕ) (word : List ℕ → ℕ) (ws : List ℕ) (n : ℕ) → n ≤ length ws → take n (appended m word ws) ≡ take n ws
+unfolding appended
+appended_front zero word ws n h = refl
+appended_front (suc m) word ws n h =
+    appended_front m word (ws ++ word ws ∷ []) n (omega (arith, length_more ws (word ws))) ∙ take-append-le n ws (word ws ∷ []) h
+
+pub padded_front : (plan : Plan) (ws : List ℕ) → ws ++ drop (length ws) (padded_table plan ws) ≡ padded_table plan ws
+padded_front plan ws =
+    let front = appended_front (capacity plan - length ws) (missing_word plan (length ws)) ws (length ws) (omega arith) in
+    ap (λ vs. vs ++ drop (length ws) (padded_table plan ws)) (sym (front ∙ take_all (length ws) ws (omega arith)))
+    ∙ take-append-drop (length ws) (padded_table plan ws)
 
 appended_below : (m : ℕ) (word : List ℕ → ℕ) (ws : List ℕ) → ((vs : List ℕ) → unreduced p vs ≡ false → word vs < p)
     → unreduced p ws ≡ false → unreduced p (appended m word ws) ≡ false

@@ -1,5 +1,5 @@
 -- What the inner functions give. No operation that users call cites it. Assumes nothing.
-use Rattle.std.specs.Prelude.{◌≡◌, false, ℕ, ◌*◌, ◌≤◌, List, length}
+use Rattle.std.specs.Prelude.{◌≡◌, false, ℕ, ◌*◌, ◌≤◌, ◌<◌, List, length}
 use Rattle.algebra.specs.Words.{unreduced}
 use Rattle.multilinear.specs.Tails.{tail_at}
 use Rattle.field.specs.Field.{p, Ext, field, from_words, Reduced}
@@ -23,3 +23,8 @@ pub record Spreads (from to : ℕ) (last : List ℕ) (weight : Element) (out : L
   pub weight_is : Reduced weight
   pub room : 4 * to ≤ length out
   pub out_below : unreduced p out ≡ false
+
+-- rows of some words, and room for a word of each place
+pub record Rows (inner : ℕ) (last : List ℕ) : Type 0 where
+  pub some : 0 < inner
+  pub room : inner ≤ length last

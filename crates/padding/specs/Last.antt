@@ -1,6 +1,8 @@
 -- The last word of each place of a row, which is all that padding needs of the words that came. Assumes nothing.
-use Rattle.std.specs.Prelude.{◌≡◌, false, cond, ℕ, zero, suc, ◌-◌, ◌*◌, ◌%◌, ◌≤◌, ◌<◌, List, [], ◌∷◌, length, get_or, set}
+use Rattle.std.specs.Prelude.{◌≡◌, false, cond, ℕ, zero, suc, ◌-◌, ◌*◌, ◌%◌, ◌≤◌, List, [], ◌∷◌, length, get_or, set}
 use Rattle.algebra.specs.Words.{unreduced}
+use Rattle.multilinear.specs.declared.Side.{Side}
+use Rattle.multilinear.specs.declared.Side.TheVariants.{Prefix, Suffix}
 use Rattle.field.specs.Field.{p}
 use Rattle.plan.specs.declared.Plan.{Plan}
 use Rattle.plan.specs.Plan.{places, capacity}
@@ -11,6 +13,11 @@ use Rattle.padding.specs.Padding.{repeats}
 unfoldable pub kept : ℕ → ℕ → List ℕ → List ℕ → List ℕ
 kept inner t [] last = last
 kept inner t (w ∷ ws) last = kept inner (suc t) ws (set last (t % inner) w)
+
+-- what is kept of them: on the suffix side nothing, as no row is repeated there
+abbrev pub kept_on : Side → ℕ → ℕ → List ℕ → List ℕ → List ℕ
+kept_on Prefix inner t ws last = kept inner t ws last
+kept_on Suffix inner t ws last = last
 
 -- f t, f (t + 1), .. m of them
 unfoldable pub words_from : (ℕ → ℕ) → ℕ → ℕ → List ℕ
@@ -23,10 +30,10 @@ missing_words plan taken last =
     words_from (λ t. cond (repeats plan.side (places plan) taken) (get_or last (t % places plan) 0) 0)
     taken (capacity plan - taken)
 
--- rows of some words, and room for a word of each place
-pub record Rows (inner : ℕ) (last : List ℕ) : Type 0 where
-  pub some : 0 < inner
-  pub room : inner ≤ length last
+-- a sound plan, and room for a word of each place
+pub record Keeps (plan : Plan) (last : List ℕ) : Type 0 where
+  pub sound : Sound plan
+  pub last_room : places plan ≤ length last
 
 -- a sound plan of which so many words came, with a last word for each place, and an out of an element for each place, all reduced
 pub record Pads (plan : Plan) (taken : ℕ) (last out : List ℕ) : Type 0 where

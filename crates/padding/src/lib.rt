@@ -4,29 +4,37 @@
 //     rows      w w w w        with 7 words of rows of 4: places 0 to 2 lack the rows from 2 on,
 //               w w w .        place 3 those from 1 on
 //               . . . .
-//
-// `keep` and `pad` have no caller yet (docs/DECISIONS.md, "The last row for the missing ones").
 #![tactic(auto)]
 
-ghost use Rattle.std.specs.Prelude.{◌≡◌, ◌+◌, ◌-◌, ◌%◌, ◌^◌, ◌≤◌, ◌<◌, length, get_or};
+ghost use Rattle.std.specs.Prelude.{◌≡◌, ◌+◌, ◌-◌, ◌%◌, ◌<◌, get_or};
 ghost use Rattle.algebra.specs.Ring.{Ops};
-ghost use Rattle.algebra.specs.Words.{unreduced};
 ghost use Rattle.multilinear.specs.declared.Side.TheVariants.{Prefix};
 ghost use Rattle.multilinear.specs.Tails.{tail_at};
 ghost use Rattle.field.specs.Field.{field, base, from_words, Holds};
 ghost use Rattle.table.specs.Gained.{Gained};
-ghost use Rattle.plan.specs.Plan.{gained_by};
+ghost use Rattle.plan.specs.Plan.{places, gained_by};
 ghost use Rattle.point.specs.Points.{coordinates};
-ghost use Rattle.padding.specs.Last.{kept, missing_words, Rows, Pads};
-ghost use Rattle.padding.specs.Inner.{Spreads};
+ghost use Rattle.padding.specs.Last.{kept, kept_on, missing_words, Keeps, Pads};
+ghost use Rattle.padding.specs.Inner.{Spreads, Rows};
 
 use field::Element;
 use multilinear::{Side, Weight};
 use plan::Plan;
 use point::{Point, equality};
 
-// Words come from word `taken` on, in rows of `inner`: last keeps the last one of each place.
-pub fn keep(inner: usize, taken: usize, words: &[u32], last: &mut [u32])
+// Words come from word `taken` on: on the prefix side last keeps the last one of each place. On the other side no row is repeated.
+pub fn keep(plan: &Plan, taken: usize, words: &[u32], last: &mut [u32])
+    requires { Keeps plan.now last.old }
+    ensures { last.new ≡ kept_on plan.now.side (places plan.now) taken words.now last.old }
+{
+    match plan.side {
+        Side::Prefix => keep_row(plan.places(), taken, words, last),
+        Side::Suffix => {}
+    }
+}
+
+// In rows of `inner`.
+fn keep_row(inner: usize, taken: usize, words: &[u32], last: &mut [u32])
     requires { Rows inner last.old }
     ensures { last.new ≡ kept inner taken words.now last.old }
 {

@@ -5,7 +5,7 @@ use Prim.Native.Nat.{ℕ}
 use mathlib.Core.List.{List, [], ◌∷◌, ◌++◌}
 use Rattle.runs.specs.State.{State}
 use Rattle.program.specs.Blocks.{Feeding, Fed, closing, end_text}
-use Rattle.program.specs.Inner.{ended, last_ended}
+use Rattle.program.specs.Inner.{last_ended}
 
 -- after a refusal
 stopped_ends : (s : State) (held : List ℕ) → end_text (record { state = s; stopped = true; held = held }) ≡ []
@@ -15,23 +15,6 @@ stopped_ends s (b ∷ bs) = refl
 
 pub no_end : (f : Feeding) → f.stopped ≡ true → end_text f ≡ []
 no_end f e = ap (λ t. end_text (record { state = f.state; stopped = t; held = f.held })) e ∙ stopped_ends f.state f.held
-
--- the last line
-module _ (s : Fed) where
-  pub stopped_last : s.feeding.stopped ≡ true → s ≡ last_ended s
-  stopped_last e = rw e refl
-
-  pub none_last : s.feeding.stopped ≡ false → s.feeding.held ≡ [] → s ≡ last_ended s
-  none_last on e = rw (on, e) refl
-
-  pub some_last : s.feeding.stopped ≡ false → (s.feeding.held ≡ [] → ⊥) → ended s ≡ last_ended s
-  some_last on h = rw on (go s.feeding.held h)
-    where
-      go : (held : List ℕ) → (held ≡ [] → ⊥)
-          → let u : Fed = record { feeding = record { state = s.feeding.state; stopped = false; held = held }; text = s.text } in
-          ended u ≡ last_ended u
-      go [] some = absurd (some refl)
-      go (b ∷ bs) some = refl
 
 ends : (f : Feeding) → let s : Fed = last_ended (record { feeding = f; text = [] }) in s.text ++ closing s.feeding ≡ end_text f
 unfolding end_text

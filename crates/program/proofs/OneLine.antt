@@ -14,9 +14,10 @@ use Rattle.frame.specs.declared.Frame.TheVariants.{Open, Coordinate, Words, Clos
 use Rattle.frame.specs.Frame.{frame_of}
 use Rattle.runs.specs.declared.Reader.{Reader}
 use Rattle.runs.specs.Phases.{is_done}
-use Rattle.runs.specs.Reader.{most_places, line_answer, taken, out_by, standing, turn, turned, out_after, Ready}
-use Rattle.program.specs.Printed.{out_text, unless_refused, refusal_line}
-use Rattle.program.specs.Blocks.{most_text, Feeding, Fed, is_refused}
+use Rattle.runs.specs.Reader.{most_places, line_answer, taken, standing, turn, turned, out_after, last_after, Ready, LastReady}
+use Rattle.runs.specs.State.{State, step}
+use Rattle.program.specs.Printed.{unless_refused, refusal_line}
+use Rattle.program.specs.Blocks.{most_text, Feeding, Fed, is_refused, close_text}
 use Rattle.program.specs.Inside.{Goes}
 use Rattle.program.specs.Inner.{done_text, ended}
 use Rattle.program.proofs.Texts.{done_length}
@@ -45,33 +46,40 @@ module _ (r : Reader) (x : Option Frame) (accepted : line_answer r x ≡ 0) wher
       go true e = let no : ◌≡◌ {A = ℕ} 10 0 = sym (done_is_ten r x e) ∙ accepted in absurd (omega arith)
 
   -- out is printed at `04`, and then only
-  by_frame : (y : Option Frame) (out : List ℕ) → out_text y (record { reader = r; out = out }) ≡ done_text (taken r y) (out_by r y out)
-  by_frame (Some (Open o)) out = refl
-  by_frame (Some (Coordinate i e)) out = silent (taken r (Some (Coordinate i e))) goes_on out
-  by_frame (Some (Words ws)) out = refl
-  by_frame (Some Close) out = refl
-  by_frame None out = silent r goes_on out
+  by_frame : (y : Option Frame) (out last : List ℕ)
+      → close_text y (record { reader = taken r y; out = out; last = last }) ≡ done_text (taken r y) out
+  by_frame (Some (Open o)) out last = refl
+  by_frame (Some (Coordinate i e)) out last = silent (taken r (Some (Coordinate i e))) goes_on out
+  by_frame (Some (Words ws)) out last = refl
+  by_frame (Some Close) out last = refl
+  by_frame None out last = silent r goes_on out
 
-  pub at_close : (out : List ℕ) → out_text x (record { reader = r; out = out }) ≡ done_text (turned r x).1 (out_after r x out)
-  unfolding turned out_after
-  at_close out = rw accepted (by_frame x out)
+  pub at_close : (out last : List ℕ)
+      → close_text x (record { reader = (turned r x).1; out = out; last = last }) ≡ done_text (turned r x).1 out
+  unfolding turned
+  at_close out last = rw accepted (by_frame x out last)
 
 -- the held line's step
-pub record Stepped (s : Fed) (result : Result Reader Refusal) (out : List ℕ) : Type 0 where
+pub record Stepped (s : Fed) (result : Result Reader Refusal) (out last : List ℕ) : Type 0 where
   pub steps : turn result s.feeding.state.reader ≡ turned s.feeding.state.reader (frame_of s.feeding.held)
-  pub sums : out ≡ out_after s.feeding.state.reader (frame_of s.feeding.held) s.feeding.state.out
+  pub sums : out ≡ out_after s.feeding.state.reader (frame_of s.feeding.held) s.feeding.state.out s.feeding.state.last
+  pub words : last ≡ last_after s.feeding.state.reader (frame_of s.feeding.held) s.feeding.state.last
   pub ready : Ready (standing result s.feeding.state.reader) out
+  pub last_ready : LastReady last
 
-pub stepped : (s : Fed) (result : Result Reader Refusal) {x : Option Frame} {line out : List ℕ} → x ≡ frame_of line → line ≡ s.feeding.held
-    → turn result s.feeding.state.reader ≡ turned s.feeding.state.reader x
-    → out ≡ out_after s.feeding.state.reader x s.feeding.state.out
-    → Ready (standing result s.feeding.state.reader) out → Stepped s result out
-stepped s result d l t o r =
+pub stepped : (s : Fed) (result : Result Reader Refusal) {x : Option Frame} {line out last : List ℕ} → x ≡ frame_of line
+    → line ≡ s.feeding.held → turn result s.feeding.state.reader ≡ turned s.feeding.state.reader x
+    → out ≡ out_after s.feeding.state.reader x s.feeding.state.out s.feeding.state.last
+    → last ≡ last_after s.feeding.state.reader x s.feeding.state.last
+    → Ready (standing result s.feeding.state.reader) out → LastReady last → Stepped s result out last
+stepped s result d l t o w r k =
     let e = d ∙ ap frame_of l in
     record {
       steps = t ∙ ap (turned s.feeding.state.reader) e;
-      sums = o ∙ ap (λ y. out_after s.feeding.state.reader y s.feeding.state.out) e;
+      sums = o ∙ ap (λ y. out_after s.feeding.state.reader y s.feeding.state.out s.feeding.state.last) e;
+      words = w ∙ ap (λ y. last_after s.feeding.state.reader y s.feeding.state.last) e;
       ready = r;
+      last_ready = k;
     }
 
 module _ {s : Fed} (goes : Goes s) (on : s.feeding.stopped ≡ false) where
@@ -84,28 +92,28 @@ module _ {s : Fed} (goes : Goes s) (on : s.feeding.stopped ≡ false) where
   abbrev x : Option Frame
   x = frame_of f.held
 
+  -- the state after it
+  abbrev ahead : State
+  ahead = step f.held f.state
+
   -- text has room for what the lines may still print
   room_left : length s.text + cond (is_done r.phase) 5 most_text ≤ most_text
   room_left = let h : length s.text + cond false 0 (cond (is_done r.phase) 5 most_text) ≤ most_text = rw on at goes.room in h
 
-  pub refusal_fits : length s.text + 5 ≤ most_text
-  refusal_fits = go (is_done r.phase) room_left
-    where
-      go : (t : Bool) → length s.text + cond t 5 most_text ≤ most_text → length s.text + 5 ≤ most_text
-      go true h = h
-      go false h = omega arith
-
   -- the reader after it, whether it goes on, and the text
-  abbrev after : Reader → List ℕ → Bool → List ℕ → Fed
-  after reader out stopped text =
-      record { feeding = record { state = record { reader = reader; out = out }; stopped = stopped; held = [] }; text = text }
+  abbrev after : Reader → List ℕ → List ℕ → Bool → List ℕ → Fed
+  after reader out last stopped text =
+      record {
+        feeding = record { state = record { reader = reader; out = out; last = last }; stopped = stopped; held = [] };
+        text = text;
+      }
 
-  left_as : {reader : Reader} {out : List ℕ} → reader ≡ (turned r x).1 → out ≡ out_after r x f.state.out → (stopped : Bool)
-      → stopped ≡ is_refused (line_answer r x) → (text : List ℕ)
-      → text ≡ s.text ++ unless_refused (line_answer r x) (out_text x f.state) → after reader out stopped text ≡ ended s
-  left_as reads sums stopped e text t = rw (reads, sums, e, t) refl
+  left_as : {result : Result Reader Refusal} {out last : List ℕ} → Stepped s result out last → {reader : Reader} → reader ≡ ahead.reader
+      → (stopped : Bool) → stopped ≡ is_refused (line_answer r x) → (text : List ℕ)
+      → text ≡ s.text ++ unless_refused (line_answer r x) (close_text x ahead) → after reader out last stopped text ≡ ended s
+  left_as st reads stopped e text t = rw (reads, st.sums, st.words, e, t) refl
 
-  module _ (refusal : Refusal) {out text : List ℕ} (st : Stepped s (Err refusal) out)
+  module _ (refusal : Refusal) {out last text : List ℕ} (st : Stepped s (Err refusal) out last)
       (put : text ≡ s.text ++ refusal_line (number refusal)) where
     numbered : number refusal ≡ line_answer r x
     unfolding turned
@@ -115,23 +123,15 @@ module _ {s : Fed} (goes : Goes s) (on : s.feeding.stopped ≡ false) where
     stays = ap (λ p. p.1) st.steps
 
     no : (is_refused (line_answer r x) ≡ true)
-        × (unless_refused (line_answer r x) (out_text x f.state) ≡ refusal_line (line_answer r x))
-    no = refused (line_answer r x) (λ z. number_some refusal (z ∙ sym numbered)) (out_text x f.state)
+        × (unless_refused (line_answer r x) (close_text x ahead) ≡ refusal_line (line_answer r x))
+    no = refused (line_answer r x) (λ z. number_some refusal (z ∙ sym numbered)) (close_text x ahead)
 
-    pub line_refused : after r out true text ≡ ended s
+    pub line_refused : after r out last true text ≡ ended s
     line_refused =
-        left_as stays st.sums true (sym no.0) text
+        left_as st stays true (sym no.0) text
         (put ∙ ap (λ t. s.text ++ t) (ap refusal_line numbered ∙ sym no.1))
 
-    pub refused_goes : Goes (after r out true text)
-    refused_goes =
-        record {
-          ready = st.ready;
-          few = omega arith;
-          room = rw put (omega (arith, refusal_fits, length-append s.text (refusal_line (number refusal))));
-        }
-
-  module _ (next : Reader) {out : List ℕ} (st : Stepped s (Ok next) out) where
+  module _ (next : Reader) {out last : List ℕ} (st : Stepped s (Ok next) out last) where
     accepted : line_answer r x ≡ 0
     unfolding turned
     accepted = sym (ap (λ p. p.0) st.steps)
@@ -156,18 +156,18 @@ module _ {s : Fed} (goes : Goes s) (on : s.feeding.stopped ≡ false) where
         go true e = few_lines
         go false e = let q : length (done_text next out) ≡ 0 = ap length (sym (silent next e out)) in omega arith
 
-    printed_as : done_text next out ≡ unless_refused (line_answer r x) (out_text x f.state)
+    printed_as : done_text next out ≡ unless_refused (line_answer r x) (close_text x ahead)
     unfolding unless_refused
-    printed_as = rw (accepted, st.sums, reads) (sym (at_close r x accepted f.state.out))
+    printed_as = rw (accepted, st.sums, reads) (sym (at_close r x accepted ahead.out ahead.last))
 
     module _ {text : List ℕ} (put : text ≡ s.text ++ done_text next out) where
-      pub line_accepted : after next out false text ≡ ended s
+      pub line_accepted : after next out last false text ≡ ended s
       unfolding is_refused
-      line_accepted = left_as reads st.sums false (rw accepted refl) text (put ∙ ap (λ t. s.text ++ t) printed_as)
+      line_accepted = left_as st reads false (rw accepted refl) text (put ∙ ap (λ t. s.text ++ t) printed_as)
 
-      pub accepted_goes : Goes (after next out false text)
+      pub accepted_goes : Goes (after next out last false text)
       accepted_goes =
           let size = length-append s.text (done_text next out) in
           let room : length text + cond (is_done next.phase) 5 most_text ≤ most_text =
           rw put (omega (arith, none_before, fits_on, size)) in
-          record { ready = st.ready; few = omega arith; room = room }
+          record { ready = st.ready; last_ready = st.last_ready; few = omega arith; room = room }

@@ -35,7 +35,7 @@ lines_length (suc n) out h =
     omega (arith, length-append (out_line (take 4 out)) (out_lines n (drop 4 out)), rest, one)
 
 -- those of n elements are told by n elements
-front : (n : ℕ) (ws : List ℕ) → out_lines n (take (4 * n) ws) ≡ out_lines n ws
+pub front : (n : ℕ) (ws : List ℕ) → out_lines n (take (4 * n) ws) ≡ out_lines n ws
 unfolding out_lines
 front zero ws = refl
 front (suc n) ws =

@@ -1,8 +1,12 @@
 -- The program's state, fed the input byte by byte: what a block leaves, and the text that it gives to print. Assumes nothing.
-use Rattle.std.specs.Prelude.{ℕ, zero, suc, Bool, true, false, cond, List, [], ◌∷◌, ◌++◌, eqb, take}
+use Rattle.std.specs.Prelude.{ℕ, zero, suc, ◌*◌, ◌^◌, Bool, true, false, cond, List, [], ◌∷◌, ◌++◌, eqb, take, replicate, Option}
+use Rattle.plan.specs.Plan.{places}
+use Rattle.frame.specs.declared.Frame.{Frame}
 use Rattle.frame.specs.Frame.{frame_of, most_line}
+use Rattle.runs.specs.Reader.{most_places}
 use Rattle.runs.specs.State.{State, number_of, step}
-use Rattle.program.specs.Printed.{line_feed, start, out_text, unless_refused, end_line}
+use Rattle.runs.specs.Runs as runs
+use Rattle.program.specs.Printed.{line_feed, out_lines, at_close, unless_refused, end_line}
 
 -- the most text of a block: the lines of 2^10 elements, and a refusal's
 abbrev pub most_text : ℕ
@@ -19,9 +23,13 @@ pub record Fed : Type 0 where
   pub feeding : Feeding
   pub text : List ℕ
 
+-- before the first line: room for 2^10 elements, and for the last word of as many places
+abbrev pub start_state : State
+start_state = runs.start (replicate (4 * 2 ^ most_places) 0) (replicate (2 ^ most_places) 0)
+
 -- before the first byte
 abbrev pub begun : Feeding
-begun = record { state = start; stopped = false; held = [] }
+begun = record { state = start_state; stopped = false; held = [] }
 
 unfoldable pub is_refused : ℕ → Bool
 is_refused zero = false
@@ -35,9 +43,13 @@ line_ended f = record { state = step f.held f.state; stopped = is_refused (numbe
 abbrev pub holding : Feeding → List ℕ → Feeding
 holding f bytes = record { state = f.state; stopped = f.stopped; held = take most_line (f.held ++ bytes) }
 
+-- what an accepted line prints: at `04` out, as it leaves it
+abbrev pub close_text : Option Frame → State → List ℕ
+close_text x s = at_close x (out_lines (places s.reader.session.plan) s.out)
+
 -- what a line prints
 abbrev pub line_text : State → List ℕ → List ℕ
-line_text s line = unless_refused (number_of s line) (out_text (frame_of line) s)
+line_text s line = unless_refused (number_of s line) (close_text (frame_of line) (step line s))
 
 -- one byte: a line feed ends the line; after a refusal nothing is read
 abbrev pub byte_step : Feeding → ℕ → Feeding

@@ -18,15 +18,20 @@ mod text;
 // The words of the sums of 2^10 elements.
 const OUT_WORDS: usize = 4096;
 
+// A word of each of 2^10 places.
+const LAST_WORDS: usize = 1024;
+
 // The most text of a block: the lines of 2^10 elements, and a refusal's.
 pub const MOST_TEXT: usize = 33797;
 
-// What the lines so far left, the sums, the bytes of the line that has not ended, whether no more are read, and the text to print.
+// What the lines so far left, the sums, the last word of each place, the bytes of the line that has not ended, whether no more are read,
+// and the text to print.
 // `stopped` is a bool: a refused line and the end of the input alike set it, and the other fields stay as they are between the blocks.
 #[derive(Drop)]
 pub struct Program {
     reader: Reader,
     out: [u32; OUT_WORDS],
+    last: [u32; LAST_WORDS],
     line: Buffer<u8, { frame::MOST_LINE }>,
     stopped: bool,
     text: Buffer<u8, MOST_TEXT>,
@@ -52,6 +57,7 @@ impl Program {
         Program {
             reader: frames::start(),
             out: [0u32; OUT_WORDS],
+            last: [0u32; LAST_WORDS],
             line: Buffer::new(),
             stopped: false,
             text: Buffer::new(),
@@ -122,7 +128,7 @@ impl Program {
     {
         let frame = frame::decode(self.line.as_slice());
         self.line.clear();
-        match frames::step(self.reader, frame, &mut self.out) {
+        match frames::step(self.reader, frame, &mut self.out, &mut self.last) {
             Ok(next) => {
                 self.reader = next;
                 text::put_out(&next, &self.out, &mut self.text);

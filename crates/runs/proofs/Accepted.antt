@@ -34,9 +34,8 @@ pub record Notes (r : Reader) (index : ℕ) (coordinate : Element) : Type 0 wher
   pub below : index < r.session.plan.k
   pub coordinate_is : Reduced coordinate
 
--- an `03`: an `01` came before, and no coordinate is missing
+-- an `03`: its words are below p, and there is room for them
 pub record Feeds (r : Reader) (words : List ℕ) : Type 0 where
-  pub all : r.session.plan.k ≤ r.came
   pub below : unreduced p words ≡ false
   pub within : r.session.taken + length words ≤ capacity r.session.plan
 
@@ -62,7 +61,7 @@ notes_clear r index coordinate h =
 
 pub feeds_clear : (r : Reader) (words : List ℕ) → Clear (words_tests r words) → Feeds r words
 feeds_clear r words h =
-    record { all = ltb-false _ _ h.0; below = h.1.0; within = ltb-false _ _ h.1.1.0 }
+    record { below = h.1.0; within = ltb-false _ _ h.1.1.0 }
 
 numbered : (r : Reader) (x : Option Frame) → Numbered (own_tests r x)
 numbered r (Some (Open o)) = tt

@@ -13,9 +13,9 @@ pub record Counted (s : State) (ws : List ℕ) : Type 0 where
   pub count : s.reader.session.taken ≡ length ws
   pub none : is_settled s.reader.phase ≡ false → ws ≡ []
 
-pub counted_start : (out : List ℕ) → Counted (start out) []
+pub counted_start : (out last : List ℕ) → Counted (start out last) []
 unfolding started
-counted_start out = record { count = refl; none = λ q. refl }
+counted_start out last = record { count = refl; none = λ q. refl }
 
 pub counted_keeps : Keeps words_by Counted
 counted_keeps =
@@ -24,7 +24,7 @@ counted_keeps =
           let z : ws ≡ [] = i.none (ap is_settled e) in
           rw z (record { count = refl; none = λ q. refl });
       notes = λ s j x ws i e h l. rw append-nil (record { count = i.count; none = i.none });
-      takes = λ s more ws i h.
+      takes = λ s more ws i h w.
           record { count = ap (λ n. n + length more) i.count ∙ sym (length-append ws more); none = λ q. never q };
       closes = λ s ws i h. rw append-nil (record { count = i.count; none = λ q. never q });
     }

@@ -1,24 +1,30 @@
--- Out's used words are the fold of the words that the accepted `03` lines brought. Assumes nothing.
+-- Out's used words are the fold of the words that the accepted `03` lines brought, and after `04` of the padded table. Assumes nothing.
 use mathlib.Core.Path.{◌≡◌, sym, ap, ap₂, ◌∙◌}
 use mathlib.Core.Bool.{true, false}
-use Prim.Native.Nat.{ℕ, ◌*◌, ◌^◌}
+use Prim.Native.Nat.{ℕ, ◌-◌, ◌*◌, ◌^◌, ◌≤◌}
 use native.Mathlib.Omega.{arith}
 use mathlib.Core.List.{List, [], ◌++◌, append-nil}
 use lib.ListN.{length, take, drop, replicate}
-use lib.Pow.{pow_mono}
+use lib.Pow.{pow_mono, pow_pos}
 use lib.Seq.{take_at}
+use Rattle.multilinear.specs.declared.Side.TheVariants.{Prefix}
 use Rattle.field.specs.declared.Element.{Element}
 use Rattle.table.proofs.Laws.{table_length}
 use Rattle.plan.specs.declared.Plan.{Plan}
 use Rattle.plan.specs.Plan.{places, fold_of, gained_by}
 use Rattle.plan.proofs.Padding.{take_zeros}
 use Rattle.plan.proofs.Joining as plan
+use Rattle.padding.specs.Padding.{padded_table}
+use Rattle.padding.specs.Last.{kept_on, missing_words}
+use Rattle.padding.proofs.Lasting.{LastOf, kept_on_length, last_none, last_kept}
+use Rattle.padding.proofs.Padded.{padded_is}
 use Rattle.frame.specs.declared.Opening.{Opening}
 use Rattle.runs.specs.declared.Phase.TheVariants as phase
+use Rattle.runs.specs.Phases.{is_done}
 use Rattle.runs.specs.Reader.{most_places, used, started, opened, with_coordinate, gained}
 use Rattle.runs.proofs.Accepted.{Opens}
 use Rattle.runs.specs.State.{State}
-use Rattle.runs.specs.Runs.{start, words_by, is_opened, is_settled}
+use Rattle.runs.specs.Runs.{start, Rooms, words_by, is_opened, is_settled}
 use Rattle.runs.proofs.Steps.{never, Keeps}
 use Rattle.runs.proofs.Counted.{Counted, counted_start, counted_keeps}
 
@@ -26,11 +32,26 @@ use Rattle.runs.proofs.Counted.{Counted, counted_start, counted_keeps}
 pub record Folded (s : State) (ws : List ℕ) : Type 0 where
   pub counted : Counted s ws
   pub room : is_opened s.reader.phase ≡ false → length s.out ≡ 4 * 2 ^ most_places
-  pub folds : is_opened s.reader.phase ≡ true → take (used s.reader) s.out ≡ fold_of s.reader.session.plan ws
+  pub last_room : length s.last ≡ 2 ^ most_places
+  pub few : is_opened s.reader.phase ≡ true → s.reader.session.plan.n - s.reader.session.plan.k ≤ most_places
+  pub lasts : s.reader.session.plan.side ≡ Prefix → LastOf (places s.reader.session.plan) ws s.last
+  pub folds : is_opened s.reader.phase ≡ true → is_done s.reader.phase ≡ false
+      → take (used s.reader) s.out ≡ fold_of s.reader.session.plan ws
+  pub pads : is_done s.reader.phase ≡ true
+      → take (used s.reader) s.out ≡ fold_of s.reader.session.plan (padded_table s.reader.session.plan ws)
 
-pub folded_start : (out : List ℕ) → length out ≡ 4 * 2 ^ most_places → Folded (start out) []
+pub folded_start : (out last : List ℕ) → Rooms out last → Folded (start out last) []
 unfolding started
-folded_start out l = record { counted = counted_start out; room = λ q. l; folds = λ q. never (sym q) }
+folded_start out last l =
+    record {
+      counted = counted_start out last;
+      room = λ q. l.elements;
+      last_room = l.words;
+      few = λ q. never (sym q);
+      lasts = λ q. last_none _ last;
+      folds = λ q d. never (sym q);
+      pads = λ d. never (sym d);
+    }
 
 -- at `01` out is zeroed
 opened_folds : (f : Opening) (out : List ℕ) → Opens f → length out ≡ 4 * 2 ^ most_places
@@ -48,45 +69,77 @@ module _ (s : State) (ws : List ℕ) (d : Folded s ws) where
   put_folds q i e =
       let now : Plan = (with_coordinate s.reader.session i e).plan in
       let z : ws ≡ [] = d.counted.none (ap is_settled q) in
-      d.folds (ap is_opened q) ∙ ap (fold_of was) z ∙ sym (plan.none was) ∙ plan.none now ∙ ap (fold_of now) (sym z)
+      d.folds (ap is_opened q) (ap is_done q) ∙ ap (fold_of was) z ∙ sym (plan.none was) ∙ plan.none now ∙ ap (fold_of now) (sym z)
 
-  -- at `03` out's used part gains the words
-  fed_folds : (more : List ℕ) → is_opened s.reader.phase ≡ true
+  -- out's used part gains the words that follow
+  gained_folds : (more : List ℕ) → is_opened s.reader.phase ≡ true → is_done s.reader.phase ≡ false
       → take (used s.reader) (gained s.reader more s.out) ≡ fold_of was (ws ++ more)
-  fed_folds more q =
+  gained_folds more q g =
       take_at _ (drop (used s.reader) s.out) (used s.reader) (table_length (places was) _)
-      ∙ ap₂ (λ n l. gained_by was n more l) d.counted.count (d.folds q)
+      ∙ ap₂ (λ n l. gained_by was n more l) d.counted.count (d.folds q g)
       ∙ plan.joined was ws more
+
+  -- at `04` these are the missing words
+  closed_folds : is_opened s.reader.phase ≡ true → is_done s.reader.phase ≡ false
+      → take (used s.reader) (gained s.reader (missing_words was s.reader.session.taken s.last) s.out)
+      ≡ fold_of was (padded_table was ws)
+  closed_folds q g =
+      gained_folds (missing_words was s.reader.session.taken s.last) q g
+      ∙ ap (λ n. fold_of was (ws ++ missing_words was n s.last)) d.counted.count
+      ∙ ap (fold_of was) (padded_is was ws s.last d.lasts)
+
+  -- at `03` the last word of each place is kept
+  fed_lasts : (more : List ℕ) → is_opened s.reader.phase ≡ true → was.side ≡ Prefix
+      → LastOf (places was) (ws ++ more) (kept_on was.side (places was) s.reader.session.taken more s.last)
+  fed_lasts more q e =
+      rw (e, d.counted.count)
+      (last_kept (places was) ws more s.last (pow_pos (was.n - was.k)) (omega (arith, d.last_room, pow_mono (d.few q))) (d.lasts e))
 
 pub folded_keeps : Keeps words_by Folded
 folded_keeps =
     record {
       opens = λ s f ws i e h.
+          let z : ws ≡ [] = i.counted.none (ap is_settled e) in
           record {
             counted = counted_keeps.opens s f ws i.counted e h;
             room = λ q. never q;
-            folds = λ q.
-                opened_folds f s.out h (i.room (ap is_opened e))
-                ∙ ap (λ l. fold_of (opened f).session.plan (l ++ [])) (sym (i.counted.none (ap is_settled e)));
+            last_room = i.last_room;
+            few = λ q. h.few;
+            lasts = λ q. rw z (last_none _ s.last);
+            folds = λ q d.
+                opened_folds f s.out h (i.room (ap is_opened e)) ∙ ap (λ l. fold_of (opened f).session.plan (l ++ [])) (sym z);
+            pads = λ d. never (sym d);
           };
       notes = λ s j x ws i e h l.
           rw append-nil
           (record {
             counted = rw append-nil at (counted_keeps.notes s j x ws i.counted e h l);
             room = i.room;
-            folds = λ q. put_folds s ws i e j x;
+            last_room = i.last_room;
+            few = i.few;
+            lasts = i.lasts;
+            folds = λ q d. put_folds s ws i e j x;
+            pads = λ d. never (sym d ∙ ap is_done e);
           });
-      takes = λ s more ws i h.
+      takes = λ s more ws i h w.
           record {
-            counted = counted_keeps.takes s more ws i.counted h;
+            counted = counted_keeps.takes s more ws i.counted h w;
             room = λ q. never q;
-            folds = λ q. fed_folds s ws i more h.opened;
+            last_room = kept_on_length _ _ _ more s.last ∙ i.last_room;
+            few = λ q. i.few h.opened;
+            lasts = fed_lasts s ws i more h.opened;
+            folds = λ q d. gained_folds s ws i more h.opened h.going;
+            pads = λ d. never (sym d);
           };
       closes = λ s ws i h.
           rw append-nil
           (record {
             counted = rw append-nil at (counted_keeps.closes s ws i.counted h);
             room = λ q. never q;
-            folds = λ q. i.folds h.opened;
+            last_room = i.last_room;
+            few = λ q. i.few h.opened;
+            lasts = i.lasts;
+            folds = λ q d. never d;
+            pads = λ d. closed_folds s ws i h.opened h.going;
           });
     }

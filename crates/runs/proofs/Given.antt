@@ -41,13 +41,13 @@ fresh s c n k q =
       all = λ z. never (sym z ∙ q);
     }
 
-pub given_start : (out : List ℕ) → Given (start out) []
+pub given_start : (out last : List ℕ) → Given (start out last) []
 unfolding started
-given_start out = fresh (start out) refl refl (omega arith) refl
+given_start out last = fresh (start out last) refl refl (omega arith) refl
 
 -- an accepted `02`
 noted_keeps : (s : State) (j : ℕ) (x : Element) (ws : List ℕ) → Given s ws → s.reader.phase ≡ phase.Points → Notes s.reader j x
-    → length x.c ≡ 4 → Given (state (noted s.reader j x) s.out) (ws ++ x.c)
+    → length x.c ≡ 4 → Given (state (noted s.reader j x) s.out s.last) (ws ++ x.c)
 noted_keeps s j x ws i e h l =
     record {
       coordinates =
@@ -61,9 +61,9 @@ noted_keeps s j x ws i e h l =
     }
 
 -- an accepted `03` or `04`: another phase, and so many words taken
-marked_keeps : (s : State) (ws : List ℕ) → Given s ws → Placed s.reader → (ph : Phase) → is_opened ph ≡ true → (taken : ℕ) (out : List ℕ)
-    → Given (state (marked_as s.reader ph taken) out) ws
-marked_keeps s ws i h ph o taken out =
+marked_keeps : (s : State) (ws : List ℕ) → Given s ws → Placed s.reader → (ph : Phase) → is_opened ph ≡ true → (taken : ℕ)
+    (out last : List ℕ) → Given (state (marked_as s.reader ph taken) out last) ws
+marked_keeps s ws i h ph o taken out last =
     record {
       coordinates = i.coordinates;
       count = i.count;
@@ -76,11 +76,11 @@ marked_keeps s ws i h ph o taken out =
 pub given_keeps : Keeps coordinate_by Given
 given_keeps =
     record {
-      opens = λ s o ws i e h. rw (i.none (ap is_opened e)) (fresh (state (opened o) _) refl refl h.narrow refl);
+      opens = λ s o ws i e h. rw (i.none (ap is_opened e)) (fresh (state (opened o) _ _) refl refl h.narrow refl);
       notes = λ s j x ws i e h l. noted_keeps s j x ws i e h l;
-      takes = λ s more ws i h.
-          rw append-nil (marked_keeps s ws i h phase.Words refl (s.reader.session.taken + length more) _);
-      closes = λ s ws i h. rw append-nil (marked_keeps s ws i h phase.Done refl s.reader.session.taken _);
+      takes = λ s more ws i h w.
+          rw append-nil (marked_keeps s ws i h phase.Words refl (s.reader.session.taken + length more) _ _);
+      closes = λ s ws i h. rw append-nil (marked_keeps s ws i h phase.Done refl s.reader.session.taken _ _);
     }
 
 -- from the first `03` or `04` on there are k of them

@@ -15,9 +15,9 @@ pub record Indexed (s : State) (is : List ℕ) : Type 0 where
   pub indices : is ≡ up_to s.reader.came
   pub none : is_opened s.reader.phase ≡ false → is ≡ []
 
-pub indexed_start : (out : List ℕ) → Indexed (start out) []
+pub indexed_start : (out last : List ℕ) → Indexed (start out last) []
 unfolding started
-indexed_start out = record { indices = refl; none = λ q. refl }
+indexed_start out last = record { indices = refl; none = λ q. refl }
 
 pub indexed_keeps : Keeps index_by Indexed
 indexed_keeps =
@@ -30,7 +30,7 @@ indexed_keeps =
             indices = rw (add-one s.reader.came, i.indices, h.next);
             none = λ q. never (sym (ap is_opened e) ∙ q);
           };
-      takes = λ s ws is i h. rw append-nil (record { indices = i.indices; none = λ q. never q });
+      takes = λ s ws is i h w. rw append-nil (record { indices = i.indices; none = λ q. never q });
       closes = λ s is i h. rw append-nil (record { indices = i.indices; none = λ q. never q });
     }
 

@@ -5,5 +5,6 @@ pub mod Counted
 pub mod Folded
 pub mod Given
 pub mod Indexed
+pub mod Within
 pub mod Over
 pub mod Runs

@@ -1,10 +1,8 @@
 -- What holds after every list of lines (specs/Runs.antt). Assumes nothing.
-use mathlib.Core.Path.{◌≡◌, refl}
-use Prim.Native.Nat.{ℕ, ◌*◌, ◌^◌}
+use mathlib.Core.Path.{refl}
+use Prim.Native.Nat.{ℕ}
 use mathlib.Core.List.{List, []}
-use lib.ListN.{length}
-use Rattle.runs.specs.Reader.{most_places}
-use Rattle.runs.specs.Runs.{start, after, opening_by, words_by, coordinate_by, index_by, openings, joined, given, indices, Runs}
+use Rattle.runs.specs.Runs.{start, Rooms, after, opening_by, words_by, coordinate_by, index_by, openings, joined, given, indices, Runs}
 use Rattle.runs.proofs.Steps.{lines_keep}
 use Rattle.runs.proofs.Opened.{Opened, opened_start, opened_keeps}
 use Rattle.runs.proofs.Counted.{Counted, counted_start, counted_keeps}
@@ -12,29 +10,36 @@ use Rattle.runs.proofs.Folded.{Folded, folded_start, folded_keeps}
 use Rattle.runs.proofs.Given.{Given, given_start, given_keeps, given_all}
 use Rattle.runs.proofs.Indexed.{Indexed, indexed_start, indexed_keeps, rising}
 
-opened : (ls : List (List ℕ)) (out : List ℕ) → Opened (after ls (start out)) (openings ls (start out))
-opened ls out = lines_keep opening_by Opened opened_keeps openings (λ s. refl) (λ l ls s. refl) ls (start out) [] (opened_start out)
+module _ (ls : List (List ℕ)) (out last : List ℕ) where
+  opened : Opened (after ls (start out last)) (openings ls (start out last))
+  opened =
+      lines_keep opening_by Opened opened_keeps openings (λ s. refl) (λ l ls s. refl) ls (start out last) [] (opened_start out last)
 
-counted : (ls : List (List ℕ)) (out : List ℕ) → Counted (after ls (start out)) (joined ls (start out))
-counted ls out = lines_keep words_by Counted counted_keeps joined (λ s. refl) (λ l ls s. refl) ls (start out) [] (counted_start out)
+  counted : Counted (after ls (start out last)) (joined ls (start out last))
+  counted =
+      lines_keep words_by Counted counted_keeps joined (λ s. refl) (λ l ls s. refl) ls (start out last) [] (counted_start out last)
 
-folded : (ls : List (List ℕ)) (out : List ℕ) → length out ≡ 4 * 2 ^ most_places → Folded (after ls (start out)) (joined ls (start out))
-folded ls out l = lines_keep words_by Folded folded_keeps joined (λ s. refl) (λ l ls s. refl) ls (start out) [] (folded_start out l)
+  folded : Rooms out last → Folded (after ls (start out last)) (joined ls (start out last))
+  folded l =
+      lines_keep words_by Folded folded_keeps joined (λ s. refl) (λ l ls s. refl) ls (start out last) [] (folded_start out last l)
 
-were_given : (ls : List (List ℕ)) (out : List ℕ) → Given (after ls (start out)) (given ls (start out))
-were_given ls out = lines_keep coordinate_by Given given_keeps given (λ s. refl) (λ l ls s. refl) ls (start out) [] (given_start out)
+  were_given : Given (after ls (start out last)) (given ls (start out last))
+  were_given =
+      lines_keep coordinate_by Given given_keeps given (λ s. refl) (λ l ls s. refl) ls (start out last) [] (given_start out last)
 
-indexed : (ls : List (List ℕ)) (out : List ℕ) → Indexed (after ls (start out)) (indices ls (start out))
-indexed ls out = lines_keep index_by Indexed indexed_keeps indices (λ s. refl) (λ l ls s. refl) ls (start out) [] (indexed_start out)
+  indexed : Indexed (after ls (start out last)) (indices ls (start out last))
+  indexed =
+      lines_keep index_by Indexed indexed_keeps indices (λ s. refl) (λ l ls s. refl) ls (start out last) [] (indexed_start out last)
 
 pub runs : Runs
 runs =
     record {
-      unopened = λ ls out q. (opened ls out).none q;
-      opened_by = λ ls out q. (opened ls out).held q;
-      folds = λ ls out l q. (folded ls out l).folds q;
-      takes = λ ls out. (counted ls out).count;
-      rising = λ ls out. rising _ _ (indexed ls out);
-      in_order = λ ls out. (were_given ls out).coordinates;
-      none_missing = λ ls out q. given_all _ _ (were_given ls out) q;
+      unopened = λ ls out last q. (opened ls out last).none q;
+      opened_by = λ ls out last q. (opened ls out last).held q;
+      folds = λ ls out last l q d. (folded ls out last l).folds q d;
+      pads = λ ls out last l d. (folded ls out last l).pads d;
+      takes = λ ls out last. (counted ls out last).count;
+      rising = λ ls out last. rising _ _ (indexed ls out last);
+      in_order = λ ls out last. (were_given ls out last).coordinates;
+      none_missing = λ ls out last q. given_all _ _ (were_given ls out last) q;
     }

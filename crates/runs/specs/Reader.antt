@@ -1,5 +1,5 @@
 -- The program's state and one step of it, a line (document 01, "Frames" and "Program, line by line"; document 02, request (b), for the
--- coordinates). Assumes nothing.
+-- coordinates, and (d), for the missing words). Assumes nothing.
 use Rattle.std.specs.Prelude.{◌≡◌, ℕ, ◌+◌, ◌-◌, ◌*◌, ◌^◌, ◌≤◌, Bool, false, not, List, [], ◌∷◌, ◌++◌, eqb, leb, ltb, length, take, drop, replicate, Option, Some, None, Result, Ok, Err}
 use Rattle.algebra.specs.Words.{unreduced}
 use Rattle.multilinear.specs.declared.Side.TheVariants.{Prefix}
@@ -12,6 +12,7 @@ use Rattle.table.specs.Refusals.{answer, Test, ◌gives◌, verdict, leaves, mos
 use Rattle.plan.specs.declared.Plan.{Plan}
 use Rattle.plan.specs.Plan.{plan_of, places, capacity, gained_by}
 use Rattle.plan.specs.Sound.{Sound}
+use Rattle.padding.specs.Last.{kept_on, missing_words}
 use Rattle.ledger.specs.declared.Session.{Session}
 use Rattle.ledger.specs.Session.{session_of}
 use Rattle.frame.specs.declared.Opening.{Opening}
@@ -146,17 +147,25 @@ taken r None = r
 abbrev pub used : Reader → ℕ
 used r = 4 * places r.session.plan
 
--- out with the words of an `03`: as the session's feed leaves it
+-- out with the words that follow those taken: as the session's feed leaves it
 abbrev pub gained : Reader → List ℕ → List ℕ → List ℕ
 gained r words out = gained_by r.session.plan r.session.taken words (take (used r) out) ++ drop (used r) out
 
--- out after a line: zeroed at `01`, and at `03` with its words
-abbrev pub out_by : Reader → Option Frame → List ℕ → List ℕ
-out_by r (Some (Open o)) out = replicate (length out) 0
-out_by r (Some (Coordinate index coordinate)) out = out
-out_by r (Some (Words words)) out = gained r words out
-out_by r (Some Close) out = out
-out_by r None out = out
+-- out after a line: zeroed at `01`, at `03` with its words, and at `04` with the missing ones
+abbrev pub out_by : Reader → Option Frame → List ℕ → List ℕ → List ℕ
+out_by r (Some (Open o)) out last = replicate (length out) 0
+out_by r (Some (Coordinate index coordinate)) out last = out
+out_by r (Some (Words words)) out last = gained r words out
+out_by r (Some Close) out last = gained r (missing_words r.session.plan r.session.taken last) out
+out_by r None out last = out
+
+-- the last word of each place after a line: at `03` with the line's words, on the prefix side
+abbrev pub last_by : Reader → Option Frame → List ℕ → List ℕ
+last_by r (Some (Words words)) last = kept_on r.session.plan.side (places r.session.plan) r.session.taken words last
+last_by r (Some (Open o)) last = last
+last_by r (Some (Coordinate index coordinate)) last = last
+last_by r (Some Close) last = last
+last_by r None last = last
 
 -- the reader after a step: a refused one leaves it as it was
 abbrev pub standing : Result Reader Refusal → Reader → Reader
@@ -172,8 +181,12 @@ unfoldable pub turned : Reader → Option Frame → ℕ × Reader
 turned r x = (line_answer r x, leaves (line_answer r x) (taken r x) r)
 
 -- out after it
-unfoldable pub out_after : Reader → Option Frame → List ℕ → List ℕ
-out_after r x out = leaves (line_answer r x) (out_by r x out) out
+unfoldable pub out_after : Reader → Option Frame → List ℕ → List ℕ → List ℕ
+out_after r x out last = leaves (line_answer r x) (out_by r x out last) out
+
+-- and the last words
+unfoldable pub last_after : Reader → Option Frame → List ℕ → List ℕ
+last_after r x last = leaves (line_answer r x) (last_by r x last) last
 
 -- what every line finds: the state's numbers in their limits, its words and out's below p
 pub record Ready (r : Reader) (out : List ℕ) : Type 0 where
@@ -182,3 +195,8 @@ pub record Ready (r : Reader) (out : List ℕ) : Type 0 where
   pub within : r.session.taken ≤ capacity r.session.plan
   pub room : length out ≡ 4 * 2 ^ most_places
   pub out_below : unreduced p out ≡ false
+
+-- and of the last words: one for each of 2^10 places, below p
+pub record LastReady (last : List ℕ) : Type 0 where
+  pub room : length last ≡ 2 ^ most_places
+  pub below : unreduced p last ≡ false

@@ -2,6 +2,7 @@
 use Rattle.std.specs.Prelude.{◌≡◌, ℕ, zero, suc, ◌*◌, ◌^◌, Bool, true, false, List, [], ◌∷◌, ◌++◌, length, take, Option, Some, None}
 use Rattle.table.specs.Refusals.{leaves}
 use Rattle.plan.specs.Plan.{padded, fold_of}
+use Rattle.padding.specs.Padding.{padded_table}
 use Rattle.ledger.specs.declared.Session.{Session}
 use Rattle.frame.specs.declared.Opening.{Opening}
 use Rattle.frame.specs.declared.Frame.{Frame}
@@ -9,12 +10,17 @@ use Rattle.frame.specs.declared.Frame.TheVariants.{Open, Coordinate, Words, Clos
 use Rattle.frame.specs.Frame.{frame_of}
 use Rattle.runs.specs.declared.Phase.{Phase}
 use Rattle.runs.specs.declared.Phase.TheVariants as phase
+use Rattle.runs.specs.Phases.{is_done}
 use Rattle.runs.specs.Reader.{started, used, most_places}
 use Rattle.runs.specs.State.{State, number_of, step}
 
--- before the first line, out is anything of 2^10 elements
-abbrev pub start : List ℕ → State
-start out = record { reader = started; out = out }
+-- before the first line, out is anything of 2^10 elements, and the last words are any 2^10
+abbrev pub start : List ℕ → List ℕ → State
+start out last = record { reader = started; out = out; last = last }
+
+pub record Rooms (out last : List ℕ) : Type 0 where
+  pub elements : length out ≡ 4 * 2 ^ most_places
+  pub words : length last ≡ 2 ^ most_places
 
 -- after lines, one after another
 abbrev pub after : List (List ℕ) → State → State
@@ -95,22 +101,29 @@ is_settled phase.Done = true
 
 pub record Runs : Type 0 where
   -- "Just one `01` comes first": before it none was accepted
-  pub unopened : (ls : List (List ℕ)) (out : List ℕ) → is_opened (after ls (start out)).reader.phase ≡ false → openings ls (start out) ≡ []
+  pub unopened : (ls : List (List ℕ)) (out last : List ℕ) → is_opened (after ls (start out last)).reader.phase ≡ false
+      → openings ls (start out last) ≡ []
   -- from it on one was, and the session has the fields that stand in that line
-  pub opened_by : (ls : List (List ℕ)) (out : List ℕ) → is_opened (after ls (start out)).reader.phase ≡ true
-      → openings ls (start out) ≡ held_by (after ls (start out)).reader.session ∷ []
-  -- out is the ledger's of the joined words: at each place the sum over the rows of scale·weight·word, a missing word being 0
-  pub folds : (ls : List (List ℕ)) (out : List ℕ) → length out ≡ 4 * 2 ^ most_places
-      → let s = after ls (start out) in is_opened s.reader.phase ≡ true
+  pub opened_by : (ls : List (List ℕ)) (out last : List ℕ) → is_opened (after ls (start out last)).reader.phase ≡ true
+      → openings ls (start out last) ≡ held_by (after ls (start out last)).reader.session ∷ []
+  -- before `04` out is the ledger's of the joined words: at each place the sum over the rows of scale·weight·word, a missing word being 0
+  pub folds : (ls : List (List ℕ)) (out last : List ℕ) → Rooms out last
+      → let s = after ls (start out last) in is_opened s.reader.phase ≡ true → is_done s.reader.phase ≡ false
+      → take (used s.reader) s.out ≡ fold_of s.reader.session.plan (joined ls (start out last))
+  -- from `04` on it is the fold of the padded table
+  pub pads : (ls : List (List ℕ)) (out last : List ℕ) → Rooms out last
+      → let s = after ls (start out last) in is_done s.reader.phase ≡ true
       → take (used s.reader) s.out
-      ≡ fold_of s.reader.session.plan (joined ls (start out))
-  -- and the words taken are as many
-  pub takes : (ls : List (List ℕ)) (out : List ℕ) → (after ls (start out)).reader.session.taken ≡ length (joined ls (start out))
+      ≡ fold_of s.reader.session.plan (padded_table s.reader.session.plan (joined ls (start out last)))
+  -- and the words taken are as many as those joined
+  pub takes : (ls : List (List ℕ)) (out last : List ℕ)
+      → (after ls (start out last)).reader.session.taken ≡ length (joined ls (start out last))
   -- "the index starts at 00 and rises by one": so do the accepted `02` lines
-  pub rising : (ls : List (List ℕ)) (out : List ℕ) → indices ls (start out) ≡ up_to (length (indices ls (start out)))
+  pub rising : (ls : List (List ℕ)) (out last : List ℕ)
+      → indices ls (start out last) ≡ up_to (length (indices ls (start out last)))
   -- the coordinates are those of the accepted `02` lines, in their order, and 0 where none has come yet
-  pub in_order : (ls : List (List ℕ)) (out : List ℕ)
-      → (after ls (start out)).reader.session.plan.coordinates ≡ padded (given ls (start out))
+  pub in_order : (ls : List (List ℕ)) (out last : List ℕ)
+      → (after ls (start out last)).reader.session.plan.coordinates ≡ padded (given ls (start out last))
   -- from the first `03` or `04` on there are k of them
-  pub none_missing : (ls : List (List ℕ)) (out : List ℕ) → is_settled (after ls (start out)).reader.phase ≡ true
-      → length (given ls (start out)) ≡ 4 * (after ls (start out)).reader.session.plan.k
+  pub none_missing : (ls : List (List ℕ)) (out last : List ℕ) → is_settled (after ls (start out last)).reader.phase ≡ true
+      → length (given ls (start out last)) ≡ 4 * (after ls (start out last)).reader.session.plan.k

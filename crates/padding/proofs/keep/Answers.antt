@@ -1,10 +1,6 @@
--- A word more. Assumes nothing.
-use Rattle.std.proofs.Common.{arith}
-use Rattle.padding.proofs.Keeping.{turn, finish}
+-- A row has a word for each place. Assumes nothing.
+use lib.Pow.{pow_pos}
 use Rattle.padding.proofs.keep.Goals as goal
 
-pub loop-word-preserved : goal.loop-word-preserved
-loop-word-preserved c = turn c.loop-word.invariant (omega arith) c.following-place.ensures
-
-pub returns : goal.returns
-returns c = finish c.loop-word.invariant (omega arith)
+pub keep_row-requires : goal.keep_row-requires
+keep_row-requires c = rw c.places.ensures (record { some = pow_pos _; room = c.requires.last_room })

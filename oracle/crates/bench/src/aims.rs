@@ -3,7 +3,7 @@
 use std::ptr;
 
 use crate::bench::Row;
-use crate::side::Who::{self, C, Fold, Ours, Rust};
+use crate::side::Who::{self, C, Fold, Ours, Rust, Start};
 
 /// Rows of these names and sizes take at most this part of a side's time.
 pub struct Aim {
@@ -46,6 +46,9 @@ pub const EVERYWHERE: [(Who, f64); 2] = [(C, 1.2), (Rust, 1.0)];
 /// of it.
 pub const FRAMES: f64 = 0.25;
 pub const SMALLER: f64 = 0.5;
+
+/// The most seconds of foldframes beyond its start where a table is padded.
+pub const BEYOND_START: f64 = 0.001;
 
 /// A row beside its bound.
 pub struct Held<'a> {
@@ -102,4 +105,10 @@ pub fn missed(rows: &[Row]) -> Vec<Held<'_>> {
 pub fn frames(rows: &[Row]) -> Vec<f64> {
     let rows = rows.iter().filter(|row| row.bytes > 0);
     rows.filter_map(|row| row.time(Ours)).collect()
+}
+
+/// The times of foldframes beyond its start.
+pub fn beyond_start(rows: &[Row]) -> Vec<f64> {
+    let beyond = |row: &Row| Some(row.time(Ours)? - row.time(Start)?);
+    rows.iter().filter_map(beyond).collect()
 }

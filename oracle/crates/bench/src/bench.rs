@@ -39,7 +39,7 @@ impl Row {
 
     /// What stands beside ours and is not the Rust.
     pub fn beside(&self) -> Option<Who> {
-        let others = [Who::C, Who::Fold, Who::Words];
+        let others = [Who::C, Who::Fold, Who::Words, Who::Start];
         others.into_iter().find(|&who| self.time(who).is_some())
     }
 }

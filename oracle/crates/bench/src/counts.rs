@@ -51,7 +51,7 @@ pub fn run(input: &Input) -> Counts {
     for (name, side, _) in SIDES {
         for k in [10, 20] {
             progress(&format!("counting {name}, k = {k}"));
-            let (all, fold) = frames(&Frames::new(input, side, MOST, k));
+            let (all, fold) = frames(&Frames::new(input, side, MOST, k, 1 << MOST));
             let part = all.zip(fold).map(|(all, fold)| fold as f64 / all as f64);
             let [all, fold] = [all, fold].map(shown);
             let shown = part.map(percent).unwrap_or_default();

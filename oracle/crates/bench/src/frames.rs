@@ -1,4 +1,5 @@
-//! The program foldframes, end to end: a process that reads a full table.
+//! The program foldframes, end to end: a process that reads a full table, and
+//! one that reads a row and pads the table.
 
 use std::fs::{self, File};
 use std::path::{Path, PathBuf};
@@ -8,8 +9,8 @@ use std::{env, fmt::Write};
 use crate::bench::Bench;
 use crate::folds::{PREFIX, SUFFIX, our_fold};
 use crate::input::{Input, MOST, SCALE};
-use crate::side::Side;
-use crate::side::Who::{Fold, Ours};
+use crate::side::Who::{Fold, Ours, Start};
+use crate::side::{Side, Who};
 
 /// The words of a line.
 const LINE: usize = 16;
@@ -20,6 +21,9 @@ pub const SIDES: [(&str, u8, crate::folds::Fold); 2] = [
     ("foldframes, suffix, plain", 1, SUFFIX.1),
 ];
 
+/// The name of the row whose table is padded.
+const PADDED: &str = "foldframes, 04 after one row";
+
 pub fn run(bench: &mut Bench, input: &Input) {
     if bench.once.is_some() {
         return;
@@ -27,7 +31,7 @@ pub fn run(bench: &mut Bench, input: &Input) {
     let (n, program) = (MOST, program());
     for (name, side, fold) in SIDES {
         for k in [10, 20] {
-            let frames = Frames::new(input, side, n, k);
+            let frames = Frames::new(input, side, n, k, 1 << n);
             bench.case_of_bytes(name, n, format!("k = {k}"), frames.bytes, || {
                 vec![
                     Side::new(Ours, |clock| {
@@ -39,6 +43,26 @@ pub fn run(bench: &mut Bench, input: &Input) {
             });
         }
     }
+    padded(bench, input, &program);
+}
+
+/// One row of a table, which is padded at `04`, beside an empty input.
+fn padded(bench: &mut Bench, input: &Input, program: &Path) {
+    let (n, k) = (MOST, 10);
+    let row = Frames::new(input, 0, n, k, 1 << (n - k));
+    let empty = Frames::write("empty.in", "");
+    let printed = words(&row.fold(Command::new(program)));
+    assert_eq!(printed.len(), 4 << (n - k), "{PADDED}");
+    bench.case(PADDED, n, format!("k = {k}"), || {
+        vec![timed(Ours, &row, program), timed(Start, &empty, program)]
+    });
+}
+
+/// A process that reads the frames; what it prints is not compared.
+fn timed<'a>(who: Who, frames: &'a Frames, program: &'a Path) -> Side<'a> {
+    Side::new(who, move |clock| {
+        clock.once(|| frames.fold(Command::new(program)));
+    })
 }
 
 /// The program that the variable FOLDFRAMES names.
@@ -57,17 +81,22 @@ pub struct Frames {
 }
 
 impl Frames {
-    pub fn new(input: &Input, side: u8, n: usize, k: usize) -> Self {
+    /// The first words of a table, so many, and `04`.
+    pub fn new(input: &Input, side: u8, n: usize, k: usize, count: usize) -> Self {
         let mut text = frame(&[1, side, 0, n as u8, k as u8], &SCALE);
         for (index, coordinate) in input.coordinates(k).chunks(4).enumerate() {
             text += &frame(&[2, index as u8], coordinate);
         }
-        for words in input.words(n).chunks(LINE) {
+        for words in input.words(n)[..count].chunks(LINE) {
             text += &frame(&[3, words.len() as u8], words);
         }
         text += &frame(&[4], &[]);
-        let file = temporary(&format!("{side}-{k}.in"));
-        fs::write(&file, &text).unwrap_or_else(|error| fail(&file, error));
+        Self::write(&format!("{side}-{k}-{count}.in"), &text)
+    }
+
+    fn write(name: &str, text: &str) -> Self {
+        let file = temporary(name);
+        fs::write(&file, text).unwrap_or_else(|error| fail(&file, error));
         let bytes = text.len();
         Self { file, bytes }
     }

@@ -15,6 +15,8 @@ pub enum Who {
     Fold,
     /// Our fold on words, beside that on bytes.
     Words,
+    /// A process that reads nothing, beside one that reads frames.
+    Start,
 }
 
 impl Who {
@@ -25,6 +27,7 @@ impl Who {
             Self::C => "C",
             Self::Fold => "fold",
             Self::Words => "words",
+            Self::Start => "start",
         }
     }
 }

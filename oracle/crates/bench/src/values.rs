@@ -68,7 +68,9 @@ pub fn eval_base(input: &Input, n: usize) -> Vec<Side<'_>> {
         Side::whole(Ours, |out| host::poly_eval_base(words, coordinates, out)),
     ];
     if HALVES < n {
-        sides.push(Side::lent(C, 4, |out| reference::eval_base(words, coordinates, out)));
+        sides.push(Side::lent(C, 4, |out| {
+            reference::eval_base(words, coordinates, out)
+        }));
     }
     sides
 }
@@ -81,7 +83,9 @@ fn eval_ext(input: &Input, n: usize) -> Vec<Side<'_>> {
         Side::whole(Ours, |out| host::poly_eval_ext(words, coordinates, out)),
     ];
     if HALVES < n {
-        sides.push(Side::lent(C, 4, |out| reference::eval_ext(words, coordinates, out)));
+        sides.push(Side::lent(C, 4, |out| {
+            reference::eval_ext(words, coordinates, out)
+        }));
     }
     sides
 }

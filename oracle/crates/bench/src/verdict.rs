@@ -1,6 +1,9 @@
 //! Each aim with what was measured, and what is missed by how much.
 
-use crate::aims::{AIMS, EVERYWHERE, FRAMES, Held, SMALLER, frames, held, held_to, missed};
+use crate::aims::{
+    AIMS, BEYOND_START, EVERYWHERE, FRAMES, Held, SMALLER, beyond_start, frames, held, held_to,
+    missed,
+};
 use crate::bench::{Row, key};
 use crate::report::{percent, seconds, table};
 use crate::side::Who::{self, C, Fold, Ours, Rust};
@@ -19,6 +22,8 @@ pub fn aims(rows: &[Row], parts: &[f64]) -> String {
     }
     let what = "`foldframes`, a full table, end to end";
     lines.push(worst(what, FRAMES, &frames(rows), seconds));
+    let what = "`foldframes`, `04` after one row, beyond its start";
+    lines.push(worst(what, BEYOND_START, &beyond_start(rows), seconds));
     let what = "`foldframes`, the fold's part of the instructions";
     lines.push(worst(what, SMALLER, parts, percent));
     table(&["aim", "at most", "measured", "met"], &lines)

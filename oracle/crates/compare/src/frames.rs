@@ -59,29 +59,42 @@ pub fn compare(run: &mut Run) {
 }
 
 impl Frames<'_> {
-    /// Inputs of all sizes, sides and weights that fit, with all their words,
-    /// some and none.
+    /// Inputs of all sizes, sides and weights that fit, with all their words or
+    /// cut.
     fn sizes(&mut self) {
         for n in 0..=6 {
             for k in 0..=n {
-                for choice in 0..6 * self.run.count(1, 10) as u8 {
-                    let some = self.run.random.below(1 << n) as usize;
-                    for words in [1 << n, some, 0] {
-                        self.fitting(choice, n, k, words);
-                    }
-                }
+                self.cuts(n, k, self.run.count(1, 10));
             }
         }
         // The most variables that remain, and the most words.
+        for (n, k) in [(10, 0), (11, 1), (12, 2), (12, 12)] {
+            self.cuts(n, k, 1);
+        }
         for (choice, n, k, words) in [
-            (0, 10, 0, 1_000),
-            (3, 11, 1, 1 << 11),
-            (5, 12, 12, 1 << 12),
             (4, 20, 10, 1 << 20),
             (3, 20, 10, 700_000),
+            (0, 20, 10, 700_000),
+            (2, 20, 10, 1 << 10),
             (2, 20, 20, 1 << 20),
+            (4, 20, 20, 1),
         ] {
             self.fitting(choice, n, k, words);
+        }
+    }
+
+    /// Inputs of each side and weight, with all words, some and none; and cut at
+    /// a row's end, within a row and before one row.
+    fn cuts(&mut self, n: u8, k: u8, count: usize) {
+        let (row, rows) = (1 << (n - k), 1 << k);
+        for choice in 0..6 * count as u8 {
+            let mut below = |bound| self.run.random.below(bound);
+            let end = row * (1 + below(rows));
+            let within = (end + below(row)).min(row * rows);
+            let [some, before] = [row * rows, row].map(below);
+            for words in [row * rows, some, 0, end, within, before] {
+                self.fitting(choice, n, k, words as usize);
+            }
         }
     }
 

@@ -4,7 +4,7 @@ use Rattle.program.proofs.Starting.{goes_first, seen_first}
 use Rattle.program.proofs.Program.new.Goals as goal
 
 pub invariant_of-result : goal.invariant_of-result
-invariant_of-result c = goes_first c.start.ensures refl c.new.ensures c.new-2.ensures
+invariant_of-result c = goes_first c.start.ensures refl refl c.new.ensures c.new-2.ensures
 
 pub returns : goal.returns
-returns c = seen_first c.start.ensures refl c.new.ensures c.new-2.ensures
+returns c = seen_first c.start.ensures refl refl c.new.ensures c.new-2.ensures

@@ -38,7 +38,11 @@ pub const FRAMES: &[Change] = &[
     |lines, random| insert(lines, fed(lines), coordinate(14, random)),
     |lines, random| {
         let coordinates = count(lines, b"02");
-        insert(lines, 1 + coordinates, coordinate(coordinates as u8, random));
+        insert(
+            lines,
+            1 + coordinates,
+            coordinate(coordinates as u8, random),
+        );
     },
     |lines, _| {
         if let (Some(first), Some(last)) = (find(lines, b"02"), find_last(lines, b"02")) {

@@ -1,6 +1,6 @@
 //! What foldframes must print, by document 01's "Frames" and "Program, line by
-//! line", and document 02's (b) for the coordinates. Out is that of the library's
-//! fold session, and of the Rust's folds.
+//! line", and document 02's (b) for the coordinates and (d) for missing words.
+//! Out is that of the library's fold session, and of the Rust's folds.
 
 use calls::{MOST, Tests, unreduced};
 
@@ -155,13 +155,13 @@ impl Reader {
         }
     }
 
-    /// Out of a session fed the words and then a 0 for each that is missing, and
-    /// of the Rust's fold of all of them.
+    /// Out of a session fed the words and then those that are missing, and of
+    /// the Rust's fold of all of them.
     fn outs(&mut self) -> Vec<Vec<u32>> {
         let step = self.head.as_mut().unwrap();
         step.point = self.coordinates.concat();
         let fed = self.table.len();
-        self.table.resize(1 << step.n, 0);
+        pad(&mut self.table, step);
         let (came, missing) = self.table.split_at(fed);
         let [mut session, mut out] = [step.words.clone(), step.out.clone()];
         for (kind, piece) in [(Open, &[][..]), (Feed, came), (Feed, missing), (Close, &[])] {
@@ -177,5 +177,18 @@ impl Reader {
             .into_iter()
             .chain(folds.map(|fold| fold.lent.concat()))
             .collect()
+    }
+}
+
+/// Appends the missing words: on the prefix side, once one whole row has come,
+/// each is the word a row before it, and else 0.
+fn pad(table: &mut Vec<u32>, head: &Step) {
+    let row = head.out.len() / 4;
+    let repeats = head.side == 0 && table.len() >= row;
+    while table.len() < 1 << head.n {
+        table.push(match repeats {
+            true => table[table.len() - row],
+            false => 0,
+        });
     }
 }
