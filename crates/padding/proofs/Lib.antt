@@ -1,5 +1,6 @@
 pub mod Lasting
 pub mod Padded
+pub mod ByNumber
 mod Keeping
 mod Spreading
 mod Missing

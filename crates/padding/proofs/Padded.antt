@@ -80,7 +80,7 @@ pub padded_length : (plan : Plan) (ws : List ℕ) → length ws ≤ capacity pla
 padded_length plan ws h = appended_length (capacity plan - length ws) (missing_word plan (length ws)) ws ∙ omega arith
 
 -- the words that came stand in front
-appended_front : (m : ℕ) (word : List ℕ → ℕ) (ws : List ℕ) (n : ℕ) → n ≤ length ws → take n (appended m word ws) ≡ take n ws
+pub appended_front : (m : ℕ) (word : List ℕ → ℕ) (ws : List ℕ) (n : ℕ) → n ≤ length ws → take n (appended m word ws) ≡ take n ws
 unfolding appended
 appended_front zero word ws n h = refl
 appended_front (suc m) word ws n h =

@@ -1,3 +1,4 @@
 pub mod Padding
+pub mod ByNumber
 pub mod Last
 pub mod Inner
