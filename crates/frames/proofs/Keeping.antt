@@ -46,19 +46,15 @@ at_start out l h =
       out_below = h;
     }
 
--- the same with out's words all 0
-pub at_start_zeros : {out : List ℕ} → out ≡ replicate (4 * 2 ^ most_places) 0 → Ready started out
-at_start_zeros e =
-    at_start _ (ap length e ∙ length-replicate {A = ℕ} (4 * 2 ^ most_places) 0)
-    (ap (unreduced p) e ∙ unreduced_zeros p p_pos (4 * 2 ^ most_places))
+-- the same with words that are all 0
+zeros : (n : ℕ) {ws : List ℕ} → ws ≡ replicate n 0 → (length ws ≡ n) × (unreduced p ws ≡ false)
+zeros n e = (ap length e ∙ length-replicate {A = ℕ} n 0, ap (unreduced p) e ∙ unreduced_zeros p p_pos n)
 
--- and last words that are 0
+pub at_start_zeros : {out : List ℕ} → out ≡ replicate (4 * 2 ^ most_places) 0 → Ready started out
+at_start_zeros e = let z = zeros (4 * 2 ^ most_places) e in at_start _ z.0 z.1
+
 pub last_zeros : {last : List ℕ} → last ≡ replicate (2 ^ most_places) 0 → LastReady last
-last_zeros e =
-    record {
-      room = ap length e ∙ length-replicate {A = ℕ} (2 ^ most_places) 0;
-      below = ap (unreduced p) e ∙ unreduced_zeros p p_pos (2 ^ most_places);
-    }
+last_zeros e = let z = zeros (2 ^ most_places) e in record { room = z.0; below = z.1 }
 
 -- the words of out that the session has
 pub used_fits : {r : Reader} {out : List ℕ} → Ready r out → used r ≤ length out

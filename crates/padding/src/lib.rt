@@ -58,6 +58,7 @@ fn following(place: usize, inner: usize) -> usize
 }
 
 // out gains the missing words, where so many came: on the prefix side, once one whole row has come, the last word of each place.
+// The plan comes by value: by reference, `foldframes` took 449 to 453 million instructions for a table, and not 445.
 pub fn pad(plan: Plan, taken: usize, last: &[u32], out: &mut [u32])
     requires { Pads plan taken last.now out.old }
     ensures { out.new ≡ gained_by plan taken (missing_words plan taken last.now) out.old }

@@ -39,27 +39,28 @@ part_below xs ys zs h =
     rw (drop-append_seam xs (ys ++ zs), take-append_seam ys zs) at
     (unreduced_take p p_pos (length ys) _ (unreduced_drop p p_pos (length xs) _ h))
 
-module _ (s : Came) (l : List ℕ) (ls : List (List ℕ)) (t : List ℕ) (i : Fills s (l ∷ ls) t) where
-  abbrev first : List ℕ
-  first = words_by (frame_of l)
+-- a line's words
+abbrev words_of : List ℕ → List ℕ
+words_of l = words_by (frame_of l)
 
+module _ (s : Came) (l : List ℕ) (ls : List (List ℕ)) (t : List ℕ) (i : Fills s (l ∷ ls) t) where
   -- so there is room for the words of the first of them, and it gets what a `04` gets
-  first_number : line_answer s.reader (Some (Words first)) ≡ line_answer s.reader (Some Close)
+  first_number : line_answer s.reader (Some (Words (words_of l))) ≡ line_answer s.reader (Some Close)
   first_number =
-      let all = length-append s.words (first ++ words_in ls) in
-      let some = length-append first (words_in ls) in
-      same_number s.reader first
+      let all = length-append s.words (words_of l ++ words_in ls) in
+      let some = length-append (words_of l) (words_in ls) in
+      same_number s.reader (words_of l)
       (record {
-        below = part_below s.words first (words_in ls) (rw i.is i.below);
+        below = part_below s.words (words_of l) (words_in ls) (rw i.is i.below);
         within = omega (arith, i.taken, i.fits, ap length i.is, all, some);
       })
 
   -- and the others fill the table behind it
-  then_fills : Fills (next_by 0 (Some (Words first)) s) ls t
+  then_fills : Fills (next_by 0 (Some (Words (words_of l))) s) ls t
   then_fills =
       record {
-        taken = ap (λ n. n + length first) i.taken ∙ sym (length-append s.words first);
-        is = append_assoc s.words first (words_in ls) ∙ i.is;
+        taken = ap (λ n. n + length (words_of l)) i.taken ∙ sym (length-append s.words (words_of l));
+        is = append_assoc s.words (words_of l) (words_in ls) ∙ i.is;
         fits = i.fits;
         below = i.below;
       }
@@ -76,7 +77,7 @@ module _ (close : List ℕ) (rest : List (List ℕ)) (c : frame_of close ≡ Som
       says_line s close rest 0 (Some Close) a c
       ∙ ap₂ (λ ws x. fold_lines plan (padded_table plan ws) ++ x) q (says_done s.reader _ rest)
   all_taken (l ∷ ls) s t w i a =
-      let words = first s l ls t i in
+      let words = words_of l in
       says_line s l (ls ++ close ∷ rest) 0 (Some (Words words)) (first_number s l ls t i ∙ a) w.0
       ∙ all_taken ls (next_by 0 (Some (Words words)) s) t w.1 (then_fills s l ls t i) (still_accepted s.reader words a)
 
@@ -86,7 +87,7 @@ module _ (close : List ℕ) (rest : List (List ℕ)) (c : frame_of close ≡ Som
   none_taken [] s t n w i a = refl
   none_taken (l ∷ ls) s t n w i a =
       says_refused s close rest n (Some Close) a c
-      ∙ sym (says_refused s l (ls ++ close ∷ rest) n (Some (Words (words_by (frame_of l)))) (first_number s l ls t i ∙ a) w.0)
+      ∙ sym (says_refused s l (ls ++ close ∷ rest) n (Some (Words (words_of l))) (first_number s l ls t i ∙ a) w.0)
 
   module _ (s : Came) (i : Within (state s.reader [] []) s.words) (more : List (List ℕ)) (w : AllWords more) where
     abbrev plan : Plan
