@@ -4,7 +4,7 @@ import calls
 from draws import any_word, element, high_word, low_word, spoil, word_for
 
 # The slices that a call may write.
-LENT = ("work", "out")
+LENT = ("work", "out", "head", "coordinates", "element")
 
 
 def short(data):

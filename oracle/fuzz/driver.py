@@ -7,10 +7,11 @@ import random
 import time
 
 
-def read(description, target):
-    """The options of a driver, with `target` its first word; the seed is drawn where none is given."""
+def read(description, *targets):
+    """The options of a driver, with `targets` its first words; the seed is drawn where none is given."""
     parser = argparse.ArgumentParser(description=description)
-    parser.add_argument(target)
+    for target in targets:
+        parser.add_argument(target)
     parser.add_argument("--seconds", type=float, default=60)
     parser.add_argument("--cases", type=int, default=None, help="so many cases, however long they take")
     parser.add_argument("--seed", type=int, default=None)

@@ -11,6 +11,48 @@ HANG_SECONDS = 60
 # So many bytes on each side of a lent slice must stay as they were.
 GUARD = 64
 
+BYTE, WORD = 1, 4
+
+NUMBER, SIZE = ctypes.c_uint32, ctypes.c_uint64
+
+
+class Form:
+    """The C arguments of a call: slices of bytes or of words, each with its length, some of them before the numbers and
+    the others after; and then arrays of one length, which pass without it."""
+
+    def __init__(self, unit, before, numbers, after, arrays=0):
+        self.unit, self.before, self.arrays = unit, before, arrays
+        lent = [ctypes.c_void_p, ctypes.c_size_t]
+        self.types = lent * before + numbers + lent * after + [ctypes.c_void_p] * arrays
+
+    def arguments(self, call, lend):
+        arguments, last = [], len(call.slices) - self.arrays
+        for place, (name, data) in enumerate(call.slices.items()):
+            if place == self.before:
+                arguments += call.numbers
+            arguments.append(lend(name, data, self.unit))
+            if place < last:
+                arguments.append(len(data) // self.unit)
+        return arguments
+
+
+FOLD = Form(BYTE, 2, [NUMBER] * 4, 2)
+
+# The calls of each library by what follows its prefix.
+WARD = {
+    "equality_at_vertex": Form(BYTE, 1, [SIZE], 1),
+    "eval_next": Form(BYTE, 3, [], 0),
+    "compress_prefix_shifted": FOLD,
+    "compress_suffix_shifted": FOLD,
+}
+HOST = {
+    "session_open": Form(WORD, 1, [NUMBER] * 4 + [SIZE, SIZE, NUMBER, NUMBER], 1, arrays=2),
+    "session_feed": Form(WORD, 2, [], 0, arrays=2),
+    "session_close": Form(WORD, 1, [], 0, arrays=2),
+    "session_read": Form(WORD, 0, [SIZE], 1, arrays=3),
+}
+FORMS = {"ward_": WARD, "host_": HOST}
+
 
 class Arena:
     """Memory for one slice. The page after it is forbidden, so that reading past the end is seen."""
@@ -24,15 +66,16 @@ class Arena:
         if protect(self.address + self.size, mmap.PAGESIZE, 0):
             raise OSError(ctypes.get_errno(), "mprotect")
 
-    def lend(self, rng, data):
-        """Puts the bytes right before the forbidden page, or between guards at any alignment."""
-        after = 0 if rng.random() < 0.5 else GUARD + rng.randrange(16)
+    def lend(self, rng, data, unit):
+        """Puts the bytes right before the forbidden page, or between guards at any alignment of bytes or of words."""
+        after = 0 if rng.random() < 0.5 else GUARD + unit * rng.randrange(16)
         self.end = self.size - after
         self.start = self.end - len(data)
         self.before = rng.randbytes(GUARD)
         self.after = rng.randbytes(after)
         self.memory[self.start - GUARD:self.size] = self.before + data + self.after
-        return None if not data and rng.random() < 0.5 else self.address + self.start
+        no_address = unit == BYTE and not data and rng.random() < 0.5
+        return None if no_address else self.address + self.start
 
     def data(self):
         return self.memory[self.start:self.end]
@@ -47,38 +90,31 @@ LARGEST = 4 * 2 ** 22 + 4096
 
 
 class Library:
-    def __init__(self, path):
+    def __init__(self, path, prefix):
         library = ctypes.CDLL(path)
-        lent, byte_count = ctypes.c_void_p, ctypes.c_size_t
-        fold = [lent, byte_count] * 2 + [ctypes.c_uint32] * 4 + [lent, byte_count] * 2
-        forms = {
-            "equality_at_vertex": [lent, byte_count, ctypes.c_uint64, lent, byte_count],
-            "eval_next": [lent, byte_count] * 3,
-            "compress_prefix_shifted": fold,
-            "compress_suffix_shifted": fold,
-        }
-        self.functions = {}
-        for name, form in forms.items():
-            function = getattr(library, "ward_" + name)
-            function.argtypes, function.restype = form, ctypes.c_uint32
+        self.forms, self.functions, self.arenas = FORMS[prefix], {}, {}
+        for name, form in self.forms.items():
+            function = getattr(library, prefix + name)
+            function.argtypes, function.restype = form.types, ctypes.c_uint32
             self.functions[name] = function
-        self.arenas = {name: Arena(LARGEST) for name in ("table", "point", "row", "work", "out")}
+
+    def arena(self, name):
+        if name not in self.arenas:
+            self.arenas[name] = Arena(LARGEST)
+        return self.arenas[name]
 
     def run(self, call, rng):
         """The result number, and what the call did that none may do."""
-        before_numbers = {"equality_at_vertex": 1, "eval_next": 3}.get(call.name, 2)
-        arguments = []
-        for place, (name, data) in enumerate(call.slices.items()):
-            if place == before_numbers:
-                arguments += call.numbers
-            arguments += [self.arenas[name].lend(rng, data), len(data)]
+        slices = call.slices
+        arguments = self.forms[call.name].arguments(
+            call, lambda name, data, unit: self.arena(name).lend(rng, data, unit))
         # A call that hangs ends the process and counts as a crash.
         signal.alarm(HANG_SECONDS)
         number = self.functions[call.name](*arguments)
         signal.alarm(0)
-        broken = ["%s: bytes beside it changed" % name for name in call.slices if not self.arenas[name].guards_stand()]
+        broken = ["%s: bytes beside it changed" % name for name in slices if not self.arenas[name].guards_stand()]
         broken += [
-            "%s: input changed" % name for name, data in call.slices.items()
+            "%s: input changed" % name for name, data in slices.items()
             if name not in LENT and self.arenas[name].data() != data]
         return number, broken
 

@@ -1,46 +1,79 @@
 -- The operations agree (specs/Agreement.antt). Assumes nothing.
-use mathlib.Core.Path.{◌≡◌, sym, ap, ◌∙◌}
-use Prim.Native.Nat.{ℕ, ◌/◌, ◌^◌, ◌<◌}
+use mathlib.Core.Path.{◌≡◌, refl, sym, ap, ◌∙◌}
+use Prim.Native.Nat.{ℕ, ◌+◌, ◌-◌, ◌*◌, ◌^◌, ◌≤◌, ◌<◌}
+use native.Mathlib.Nat.{mul_comm, mul-le-mul_right}
+use native.Mathlib.Decide.{dec_lt}
 use native.Mathlib.Omega.{arith}
 use mathlib.Core.List.{List}
-use lib.ListN.{length, get_or}
+use lib.ListN.{length, get_or, get_or-eq_default}
+use Rattle.std.proofs.lemmas.List.FromFn.{length-map-range_with_len, get_or-map-range_with_len}
 use Rattle.algebra.specs.Sum.{sum_to}
 use Rattle.algebra.proofs.Sums.{sum_ext}
 use Rattle.multilinear.specs.declared.Side.{Side}
 use Rattle.multilinear.specs.declared.Weight.TheVariants.{Next}
 use Rattle.multilinear.specs.Successors.{next_at}
 use Rattle.multilinear.specs.Folds.{word_of, fold_at}
+use Rattle.multilinear.proofs.Folds.{fold_ext}
 use Rattle.field.specs.Field.{Ext, field, base, from_words}
 use Rattle.field.proofs.Laws.{field_ring}
 use Rattle.table.specs.Table.{table_words, element_at, entries, point_of}
-use Rattle.table.proofs.Laws.{table_at, elements_length}
+use Rattle.table.specs.Refusals.{variables}
+use Rattle.table.proofs.Laws.{table_ext, table_at, elements_length}
+use Rattle.table.proofs.Powers.{power_zeros}
 use Rattle.point.specs.Point.{table_answer}
 use Rattle.poly.specs.Poly.{next_out}
-use Rattle.split_tests.specs.SplitTests.{fold_answer, remains}
-use Rattle.split_eq.specs.Split.{fold_out, base_at}
-use Rattle.split_eq.proofs.FoldOutcomes.{tested}
-use Rattle.plan.specs.Plan.{rows, places, coordinates_of, word_in}
+use Rattle.split_tests.specs.SplitTests.{fold_answer}
+use Rattle.split_eq.specs.Split.{fold_plan, fold_out, base_at}
+use Rattle.plan.specs.declared.Plan.{Plan}
+use Rattle.plan.specs.Plan.{rows, places, capacity, coordinates_of, word_in}
+use Rattle.plan.specs.Columns.{plain_at, column_of}
+use Rattle.plan.proofs.Columns.{single}
+use Rattle.plan.proofs.OneColumn.{one_fold}
 use Rattle.plan.proofs.Joining.{given}
 use Rattle.ledger.specs.Session.{Args, planned, open_answer}
 use Rattle.ledger.specs.Ledger.{Call, joined}
 use Rattle.ledger.specs.Demand3.{answers, after}
-use Rattle.ledger.proofs.Ledgers.{places_there, out_is}
-use Rattle.ledger.proofs.Demand3.{element_is}
-use Rattle.agreement.specs.Agreement.{Agreement}
+use Rattle.ledger.proofs.Accepted.{opened}
+use Rattle.ledger.proofs.Ledgers.{words_fit}
+use Rattle.ledger.proofs.Demand3.{column_is}
+use Rattle.agreement.specs.Agreement.{table_column, out_column, Agreement}
 use Rattle.agreement.proofs.NextTable.{next_words}
 
--- both plans have as many places
-as_in_one_call : (a : Args) (out : List ℕ) (cs : List Call) (work out' : List ℕ) → length out' ≡ length out → open_answer a out ≡ 0
-    → fold_answer (joined cs (answers a out cs)) a.point a.scale work out' ≡ 0
-    → (after a out cs).out ≡ fold_out a.side a.weight (joined cs (answers a out cs)) a.point a.scale work out'
+module _ (plan : Plan) (ws : List ℕ) (j : ℕ) where
+  -- a column's words
+  column_length : length (table_column plan ws j) ≡ 2 ^ plan.n
+  column_length = length-map-range_with_len _ 0 (2 ^ plan.n)
+
+  -- word w of it, and none behind it, where the table has no more than c·2^n words
+  column_at : length ws ≤ capacity plan → (w : ℕ) → get_or (table_column plan ws j) w 0 ≡ get_or ws (w * plan.columns + j) 0
+  column_at fits w = go (dec_lt w (2 ^ plan.n))
+    where
+      go : Dec (w < 2 ^ plan.n) → get_or (table_column plan ws j) w 0 ≡ get_or ws (w * plan.columns + j) 0
+      go (yes h) = get_or-map-range_with_len (λ t. get_or ws (t * plan.columns + j) 0) 0 (2 ^ plan.n) w w 0 h (omega arith)
+      go (no h) =
+          let le : 2 ^ plan.n * plan.columns ≤ w * plan.columns = mul-le-mul_right plan.columns (omega arith) in
+          get_or-eq_default (table_column plan ws j) 0 {n = w} (omega (arith, column_length))
+          ∙ sym (get_or-eq_default ws 0 {n = w * plan.columns + j} (omega (arith, le, mul_comm plan.columns (2 ^ plan.n))))
+
+-- both plans have as many variables, and the fold of a column has the column's words
+as_in_one_call : (a : Args) (out : List ℕ) (cs : List Call) (j : ℕ) (work out' : List ℕ) → open_answer a out ≡ 0 → j < a.columns
+    → let column = table_column (planned a) (joined cs (answers a out cs)) j in
+    fold_answer column a.point a.scale work out' ≡ 0
+    → out_column (planned a) (after a out cs).out j ≡ fold_out a.side a.weight column a.point a.scale work out'
 unfolding fold_out
-as_in_one_call a out cs work out' l h g =
+as_in_one_call a out cs j work out' h l g =
+    let plan = planned a in
     let ws = joined cs (answers a out cs) in
-    let q : places (planned a) ≡ 2 ^ remains ws a.point =
-    sym (places_there a out h) ∙ ap (λ n. n / 4) (sym l) ∙ (tested ws a.point a.scale work out' (sym g)).rows in
+    let column = table_column plan ws j in
+    let few : a.n < 64 = omega (arith, (opened a out (sym h)).sound.small) in
+    let n : variables (length column) ≡ a.n = ap variables (column_length plan ws j) ∙ power_zeros 64 a.n few in
     rw g
-    (out_is a out h cs
-    ∙ ap (λ m. table_words m (fold_at field a.side a.weight m (coordinates_of (planned a)) (from_words a.scale) (base_at ws))) q)
+    (table_ext (places plan) _ _ (λ i b. column_is a out h cs i j b l ∙ single plan (base_at ws) i j)
+    ∙ table_ext (places plan) _ _
+    (λ i b. fold_ext field_ring _ _ _ _ _ (column_of plan (base_at ws) j) (base_at column)
+    (λ w. ap base (sym (column_at plan ws j (words_fit a out h cs) w))) i)
+    ∙ ap (λ m. table_words (2 ^ (m - plan.k)) (plain_at plan (2 ^ (m - plan.k)) (base_at column))) (sym n)
+    ∙ sym (one_fold (fold_plan a.side a.weight column a.point a.scale) refl column))
 
 -- a fold on next weight is the sum against a table that has the weights
 against : (side : Side) (inner k : ℕ) (zs : List Ext) (scale : Ext) (f g : ℕ → Ext) → k ≡ length zs
@@ -60,16 +93,16 @@ unfolding next_out
 next_row point table h y b = rw h (sym (table_at (2 ^ entries point) (next_at field (point_of point)) y b))
 
 against_next : (a : Args) (out : List ℕ) (cs : List Call) (table : List ℕ) → a.weight ≡ Next → open_answer a out ≡ 0
-    → table_answer a.point table ≡ 0 → (i : ℕ) → i < places (planned a)
-    → element_at (after a out cs).out i
+    → table_answer a.point table ≡ 0 → (i j : ℕ) → i < places (planned a) → j < a.columns
+    → element_at (after a out cs).out (i * a.columns + j)
     ≡ sum_to field (rows (planned a))
     (λ y. field.mul (field.mul (from_words a.scale) (element_at (next_out a.point table) y))
-    (base (get_or (joined cs (answers a out cs)) (word_in (planned a) i y) 0)))
-against_next a out cs table e h t i b =
+    (base (get_or (joined cs (answers a out cs)) (word_in (planned a) i j y) 0)))
+against_next a out cs table e h t i j b l =
     let zs = coordinates_of (planned a) in
-    let f = base_at (joined cs (answers a out cs)) in
-    let zs-are : zs ≡ point_of a.point = given a.n (entries a.point) a.side a.weight a.scale a.point (omega arith) in
-    element_is a out h cs i b
+    let f = column_of (planned a) (base_at (joined cs (answers a out cs))) j in
+    let zs-are : zs ≡ point_of a.point = given a.n (entries a.point) a.columns a.side a.weight a.scale a.point (omega arith) in
+    column_is a out h cs i j b l ∙ single (planned a) (base_at (joined cs (answers a out cs))) i j
     ∙ ap (λ w. fold_at field a.side w (places (planned a)) zs (from_words a.scale) f i) e
     ∙ against a.side (places (planned a)) (entries a.point) zs (from_words a.scale) f (element_at (next_out a.point table))
     (sym (elements_length (planned a).coordinates 0 (entries a.point)))

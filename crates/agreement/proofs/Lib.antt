@@ -1,2 +1,3 @@
 mod NextTable
 pub mod Agreement
+pub mod OneColumn

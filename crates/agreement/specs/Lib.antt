@@ -1,1 +1,2 @@
 pub mod Agreement
+pub mod OneColumn

@@ -10,9 +10,9 @@ use lib.Pow.{pow-add, pow_pos, pow_mono}
 use Rattle.multilinear.specs.declared.Side.{Side}
 use Rattle.multilinear.specs.declared.Side.TheVariants.{Prefix, Suffix}
 use Rattle.table.proofs.Laws.{table_length}
-use Rattle.plan.specs.Plan.{places, capacity}
+use Rattle.plan.specs.Plan.{rows, places, width, capacity}
 use Rattle.plan.proofs.Joining.{none}
-use Rattle.plan.proofs.Sections.{all_words}
+use Rattle.plan.proofs.OneColumn.{one_width, one_table, one_words}
 use Rattle.byte_fold.specs.declared.Section.{Section}
 use Rattle.byte_fold.specs.Inner.{Portion, most_block, first_row, first_words, sums_to}
 
@@ -34,6 +34,16 @@ module _ (s : Section) where
   abbrev H : ℕ
   H = places s.plan
 
+  -- in one column a row has a word for each place, and the table as many for each row
+  one_row : width s.plan ≡ H
+  one_row = one_width s.plan s.cut.one_column
+
+  all_rows : capacity s.plan ≡ rows s.plan * H
+  all_rows = one_words s.plan s.cut.one_column s.cut.sound.fits
+
+  one_all : capacity s.plan ≡ 2 ^ s.plan.n
+  one_all = one_table s.plan s.cut.one_column
+
   -- the sums have room
   pub sums_fit : {z : ℕ} → z ≡ H → 4 * z ≤ most_block
   sums_fit e = let le : H ≤ 2 ^ 10 = pow_mono {j = 10} s.cut.few in omega (arith, le)
@@ -41,14 +51,14 @@ module _ (s : Section) where
   -- no sum yet
   pub none_added : {sums : List ℕ} → sums ≡ replicate (4 * H) 0 → sums ≡ sums_to s 0
   unfolding first_words
-  none_added q = q ∙ none s.plan
+  none_added q = q ∙ ap (λ m. replicate (4 * m) 0) (sym one_row) ∙ none s.plan
 
   -- the first row is a block
   module _ {len : ℕ} (l : len ≡ first_row s.plan.side H) where
     first_few : (side : Side) → first_row side H ≤ capacity s.plan × first_row side H ≤ most_block
     first_few Prefix =
-        (pow_mono {j = s.plan.n} (omega arith), (let le : H ≤ 2 ^ 10 = pow_mono {j = 10} s.cut.few in omega (arith, le)))
-    first_few Suffix = (pow_pos s.plan.n, omega arith)
+        ((let le : H ≤ 2 ^ s.plan.n = pow_mono {j = s.plan.n} (omega arith) in omega (arith, le, one_all)), (let le : H ≤ 2 ^ 10 = pow_mono {j = 10} s.cut.few in omega (arith, le)))
+    first_few Suffix = ((let some = pow_pos s.plan.n in omega (arith, some, one_all)), omega arith)
 
     first_whole : s.plan.side ≡ Prefix → len % H ≡ 0
     first_whole e = let m : len ≡ H = l ∙ ap (λ side. first_row side H) e in rw m (mod_self H)
@@ -77,7 +87,7 @@ module _ (s : Section) where
         go (yes h) = let l : stop - at ≡ 4096 = omega (arith, c) in rw l (4096_is (s.plan.n - s.plan.k) s.cut.few)
         go (no h) =
             let l : at + (stop - at) ≡ end = omega (arith, c) in
-            sym (rest_of H at (stop - at) (a.whole e)) ∙ (rw (l, q, all_words s.plan s.cut.sound.fits) (mul-mod_left _ H))
+            sym (rest_of H at (stop - at) (a.whole e)) ∙ (rw (l, q, all_rows) (mul-mod_left _ H))
 
     pub block : Portion s.plan at (stop - at)
     block =
@@ -99,4 +109,4 @@ module _ (s : Section) where
         }
 
   pub sums_size : (n : ℕ) {sums : List ℕ} → sums ≡ sums_to s n → length sums ≡ 4 * H
-  sums_size n e = ap length e ∙ table_length H _
+  sums_size n e = ap length e ∙ table_length (width s.plan) _ ∙ ap (λ m. 4 * m) one_row

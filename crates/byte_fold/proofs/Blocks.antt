@@ -10,7 +10,7 @@ use Rattle.algebra.proofs.Words.{below}
 use Rattle.field.specs.Field.{p, p_pos}
 use Rattle.table.proofs.Laws.{table_length}
 use Rattle.table.proofs.Tests.{unreduced_table}
-use Rattle.plan.specs.Plan.{places, fold_of, gained_by}
+use Rattle.plan.specs.Plan.{width, fold_of, gained_by}
 use Rattle.plan.specs.Sound.{Takes}
 use Rattle.plan.proofs.Joining.{joined}
 use Rattle.byte_fold.specs.declared.Section.{Section}
@@ -29,8 +29,8 @@ module _ (s : Section) {at count : ℕ} (b : Portion s.plan at count) {block sum
         sound = s.cut.sound;
         within = omega (arith, ap length e ∙ first_length count _, b.within);
         piece_below = rw e (first_below p count _ (λ i. below p (words s.table.now) s.cut.below p_pos _));
-        room = ap length q ∙ table_length (places s.plan) _;
-        out_below = rw q (unreduced_table (places s.plan) _);
+        room = ap length q ∙ table_length (width s.plan) _;
+        out_below = rw q (unreduced_table (width s.plan) _);
       }
 
   pub added : {w : List ℕ} → w ≡ gained_by s.plan at block sums → w ≡ sums_to s (at + count)

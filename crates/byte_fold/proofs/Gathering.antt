@@ -11,7 +11,7 @@ use Rattle.octets.proofs.Octets.{words_length}
 use Rattle.multilinear.specs.declared.Side.TheVariants.{Prefix, Suffix}
 use Rattle.plan.specs.Plan.{rows, places, capacity}
 use Rattle.plan.specs.Section.{origin_of}
-use Rattle.plan.proofs.Sections.{all_words}
+use Rattle.plan.proofs.OneColumn.{one_words}
 use Rattle.byte_fold.specs.declared.Section.{Section}
 use Rattle.byte_fold.specs.Inner.{Portion, Strided, block_at, first_words, row_word}
 use Rattle.byte_fold.proofs.Words.{first_ext, first_part}
@@ -27,7 +27,7 @@ module _ (s : Section) {at count : ℕ} (b : Portion s.plan at count) where
   there = omega (arith, words_length s.table.now, s.cut.count)
 
   all : capacity s.plan ≡ R * H
-  all = all_words s.plan s.cut.sound.fits
+  all = one_words s.plan s.cut.one_column s.cut.sound.fits
 
   module _ {rs : ℕ} (r : rs ≡ 2 ^ s.plan.k) where
     pub suffix_there : 4 * (s.from * rs + at + count) ≤ length s.table.now

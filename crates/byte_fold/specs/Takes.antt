@@ -11,16 +11,18 @@ use Rattle.plan.specs.Sound.{Sound}
 abbrev pub most_held : ℕ
 most_held = 10
 
--- a sound plan's whole table in bytes, reduced, and the bytes of an element of out for each place
+-- a sound plan's whole table in bytes, of one column, reduced, and the bytes of an element of out for each place
 pub record FillsBytes (plan : Plan) (table out : List ℕ) : Type 0 where
   pub sound : Sound plan
+  pub one_column : plan.columns ≡ 1
   pub count : length table ≡ 4 * capacity plan
   pub below : unreduced p (words table) ≡ false
   pub room : length out ≡ 16 * places plan
 
--- a sound plan of few places, those from `from` on of the `inner` ones of a table in bytes
+-- a sound plan of one column and few places, those from `from` on of the `inner` ones of a table in bytes
 pub record Cut (plan : Plan) (inner from : ℕ) (table : List ℕ) : Type 0 where
   pub sound : Sound plan
+  pub one_column : plan.columns ≡ 1
   pub few : plan.n - plan.k ≤ most_held
   pub within : from + places plan ≤ inner
   pub count : length table ≡ 4 * (rows plan * inner)

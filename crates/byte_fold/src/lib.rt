@@ -64,6 +64,7 @@ impl<'a> Section<'a> {
     // 2^held places of a fold, from place `from` on.
     fn new(plan: Plan, table: &'a [u8], held: usize, from: usize) -> Section<'a>
         requires sound { Sound plan }
+        requires one_column { plan.columns ≡ 1 }
         requires few { (held ≤ plan.n - plan.k) × (held ≤ most_held) }
         requires within { from + 2 ^ held ≤ places plan }
         requires count { length table.now ≡ 4 * capacity plan }

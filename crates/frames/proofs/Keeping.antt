@@ -15,8 +15,9 @@ use Rattle.table.specs.Refusals.{most}
 use Rattle.table.proofs.Laws.{table_length}
 use Rattle.table.proofs.Parts.{unreduced_put}
 use Rattle.table.proofs.Tests.{unreduced_table}
-use Rattle.plan.specs.Plan.{places, gained_by}
+use Rattle.plan.specs.Plan.{width, gained_by}
 use Rattle.plan.specs.Sound as plan
+use Rattle.plan.proofs.OneColumn.{one_fits, one_width}
 use Rattle.padding.specs.Last.{missing_words, Keeps, Pads}
 use Rattle.padding.proofs.Lasting.{kept_on_length, kept_on_below}
 use Rattle.field.specs.declared.Element.{Element}
@@ -37,9 +38,12 @@ at_start out l h =
       sound = record {
         small = omega arith;
         fits = omega arith;
+        some_columns = omega arith;
+        few_columns = omega arith;
         scale_is = record { words_below = refl };
         coordinates_below = unreduced_zeros p p_pos (4 * most);
       };
+      one_column = refl;
       few = omega arith;
       within = omega arith;
       room = l;
@@ -58,7 +62,7 @@ last_zeros e = let z = zeros (2 ^ most_places) e in record { room = z.0; below =
 
 -- the words of out that the session has
 pub used_fits : {r : Reader} {out : List ℕ} → Ready r out → used r ≤ length out
-used_fits d = omega (arith, d.room, pow_mono d.few)
+used_fits {r} d = omega (arith, d.room, one_width r.session.plan d.one_column, pow_mono d.few)
 
 module _ (r : Reader) (out : List ℕ) (d : Ready r out) where
   opened_keeps : (o : Opening) → Opens o → Ready (opened o) (replicate (length out) 0)
@@ -67,9 +71,12 @@ module _ (r : Reader) (out : List ℕ) (d : Ready r out) where
         sound = record {
           small = h.small;
           fits = h.fits;
+          some_columns = omega arith;
+          few_columns = one_fits o.side;
           scale_is = h.scale_is;
           coordinates_below = unreduced_zeros p p_pos (4 * most);
         };
+        one_column = refl;
         few = h.few;
         within = omega arith;
         room = length-replicate {A = ℕ} (length out) 0 ∙ d.room;
@@ -83,9 +90,12 @@ module _ (r : Reader) (out : List ℕ) (d : Ready r out) where
         sound = record {
           small = s.small;
           fits = s.fits;
+          some_columns = s.some_columns;
+          few_columns = s.few_columns;
           scale_is = s.scale_is;
           coordinates_below = unreduced_put r.session.plan.coordinates index h.coordinate_is s.coordinates_below;
         };
+        one_column = d.one_column;
         few = d.few;
         within = d.within;
         room = d.room;
@@ -99,26 +109,40 @@ module _ (r : Reader) (out : List ℕ) (d : Ready r out) where
 
     gained_room : length (gained r words out) ≡ 4 * 2 ^ most_places
     gained_room =
-        let n : length new ≡ used r = table_length (places r.session.plan) _ in
+        let n : length new ≡ used r = table_length (width r.session.plan) _ in
         length-append new (drop (used r) out) ∙ omega (arith, n, length-drop (used r) out, used_fits d, d.room)
 
     gained_below : unreduced p (gained r words out) ≡ false
     gained_below =
-        unreduced_append p new (drop (used r) out) (unreduced_table (places r.session.plan) _)
+        unreduced_append p new (drop (used r) out) (unreduced_table (width r.session.plan) _)
         (unreduced_drop p p_pos (used r) out d.out_below)
 
   counted_keeps : (words : List ℕ) → Feeds r words → Ready (counted r words) (gained r words out)
   counted_keeps words h =
-      record { sound = d.sound; few = d.few; within = h.within; room = gained_room words; out_below = gained_below words }
+      record {
+        sound = d.sound;
+        one_column = d.one_column;
+        few = d.few;
+        within = h.within;
+        room = gained_room words;
+        out_below = gained_below words;
+      }
 
   done_keeps : (words : List ℕ) → Ready (done r) (gained r words out)
   done_keeps words =
-      record { sound = d.sound; few = d.few; within = d.within; room = gained_room words; out_below = gained_below words }
+      record {
+        sound = d.sound;
+        one_column = d.one_column;
+        few = d.few;
+        within = d.within;
+        room = gained_room words;
+        out_below = gained_below words;
+      }
 
   -- and last has a word of each place
   module _ {last : List ℕ} (l : LastReady last) where
-    last_fits : places r.session.plan ≤ length last
-    last_fits = omega (arith, l.room, pow_mono d.few)
+    last_fits : width r.session.plan ≤ length last
+    last_fits = omega (arith, l.room, one_width r.session.plan d.one_column, pow_mono d.few)
 
     -- what an `03` hands to the last words
     pub hands_keeps : Keeps r.session.plan last

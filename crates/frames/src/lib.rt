@@ -203,7 +203,7 @@ fn feed(reader: Reader, words: &[u32], out: &mut [u32], last: &mut [u32]) -> Rea
 {
     let taken = reader.session.taken;
     let plan = &reader.session.plan;
-    let used = 4 * plan.places();
+    let used = 4 * plan.width();
     piece::add(plan, taken, words, &mut out[..used]);
     padding::keep(plan, taken, words, last);
     mark(reader, Phase::Words, taken + words.len())
@@ -218,7 +218,7 @@ fn close(reader: Reader, last: &[u32], out: &mut [u32]) -> Reader
 {
     let plan = reader.session.plan;
     let taken = reader.session.taken;
-    let used = 4 * plan.places();
+    let used = 4 * plan.width();
     padding::pad(plan, taken, last, &mut out[..used]);
     mark(reader, Phase::Done, taken)
 }
@@ -241,6 +241,7 @@ fn session_of(opening: Opening) -> Session
         plan: Plan {
             n: opening.n,
             k: opening.k,
+            columns: 1,
             side: opening.side,
             weight: opening.weight,
             scale: opening.scale,

@@ -1,6 +1,6 @@
 // The session for a host that keeps it as words: those of the coordinates, and before them
 //
-//     n, k, side, weight, taken, closed, and the four words of the scale
+//     n, k, c, side, weight, taken, closed, and the four words of the scale
 //
 // Numbers that are no side, weight or truth value give 255: no refusal, and nothing is touched.
 use field::Element;
@@ -9,7 +9,7 @@ use plan::Plan;
 use table::Refusal;
 
 // Words before the coordinates.
-const HEAD: usize = 10;
+const HEAD: usize = 11;
 
 // Words of the coordinates.
 const COORDINATES: usize = plan::WORDS;
@@ -17,7 +17,7 @@ const COORDINATES: usize = plan::WORDS;
 // No answer of a session's.
 const NO_SESSION: u32 = 255;
 
-// The scale as four words, and eleven arguments one by one: the C interface needs it.
+// The scale as four words, and twelve arguments one by one: the C interface needs it.
 #[unsafe(no_mangle)]
 pub extern "C" fn host_session_open(
     point: &[u32],
@@ -26,6 +26,7 @@ pub extern "C" fn host_session_open(
     scale2: u32,
     scale3: u32,
     n: usize,
+    columns: usize,
     side: u32,
     weight: u32,
     out: &mut [u32],
@@ -41,7 +42,7 @@ pub extern "C" fn host_session_open(
     let scale = Element {
         c: [scale0, scale1, scale2, scale3],
     };
-    let opened = session::open(n, side, weight, scale, point, out);
+    let opened = session::open(n, columns, side, weight, scale, point, out);
     keep(opened, head, coordinates)
 }
 
@@ -90,17 +91,18 @@ fn session_of(head: &[u32; HEAD], coordinates: &[u32; COORDINATES]) -> Option<Se
     let plan = Plan {
         n: head[0] as usize,
         k: head[1] as usize,
-        side: by_number(head[2])?,
-        weight: by_number(head[3])?,
+        columns: head[2] as usize,
+        side: by_number(head[3])?,
+        weight: by_number(head[4])?,
         scale: Element {
-            c: [head[6], head[7], head[8], head[9]],
+            c: [head[7], head[8], head[9], head[10]],
         },
         coordinates: *coordinates,
     };
     Some(Session {
         plan,
-        taken: head[4] as usize,
-        closed: truth_of(head[5])?,
+        taken: head[5] as usize,
+        closed: truth_of(head[6])?,
     })
 }
 
@@ -126,6 +128,7 @@ fn head_of(s: &Session) -> [u32; HEAD] {
     [
         low(s.plan.n),
         low(s.plan.k),
+        low(s.plan.columns),
         s.plan.side as u32,
         s.plan.weight as u32,
         low(s.taken),
@@ -151,7 +154,7 @@ fn truth_of(number: u32) -> Option<bool> {
     }
 }
 
-// A session's numbers are at most 2^20.
+// A session's numbers are at most 16 2^20.
 fn low(n: usize) -> u32 {
     (n % 4294967296) as u32
 }

@@ -4,7 +4,9 @@
 mod residues;
 mod steps;
 
-ghost use Rattle.std.specs.Prelude.{◌≡◌, ◌*◌, length};
+ghost use Rattle.std.specs.Prelude.{◌≡◌, false, ◌*◌, length};
+ghost use Rattle.algebra.specs.Words.{unreduced};
+ghost use Rattle.field.specs.Field.{p};
 ghost use Rattle.table.specs.Gained.{Gained};
 ghost use Rattle.table.specs.Table.{entries, table_words};
 ghost use Rattle.kernel.specs.Kernel.{Groups, Weights, rows_at, words_at};
@@ -12,10 +14,34 @@ ghost use Rattle.kernel.specs.Kernel.{Groups, Weights, rows_at, words_at};
 use field::Element;
 use steps::Strided;
 
-// out[from + y] gains the sum of weights[t] words[t n + y] over the N rows t, for each y below n. It stays a call: copied into `scatter`,
-// which calls itself for each coordinate, its loop takes the registers of what `scatter` does each time.
-#[inline(never)]
+// The places from which on four rows are long. The weights' sixteen products with 2^32 cost a call what some ten places spare.
+const LONG: usize = 16;
+
+// out[from + y] gains the sum of weights[t] words[t n + y] over the N rows t, for each y below n.
+#[inline(always)]
 pub fn gain_rows<const N: usize>(
+    out: &mut [u32],
+    from: usize,
+    words: &[u32],
+    n: usize,
+    weights: [Element; N],
+)
+    requires rows { Groups N from n out.old words.now }
+    requires reduced { Weights N weights }
+    requires below { unreduced p out.old ≡ false }
+    ensures { Gained from n (rows_at N weights.entry n words.now) out.old out.new }
+{
+    if N == 4 && LONG <= n {
+        gain_long_rows(out, from, words, n, weights);
+    } else {
+        gain_short_rows(out, from, words, n, weights);
+    }
+}
+
+// `gain_rows` with one division a coordinate. It stays a call: copied into `scatter`, which calls itself for each coordinate, its loop takes
+// the registers of what `scatter` does each time.
+#[inline(never)]
+fn gain_short_rows<const N: usize>(
     out: &mut [u32],
     from: usize,
     words: &[u32],
@@ -34,8 +60,32 @@ pub fn gain_rows<const N: usize>(
     }
 }
 
-// out[from + i] gains the sum of weights[t] words[N i + t] over t, for each i below n. `gain_rows` differs in where a place's words stand
-// alone: two loops of two lines, and one over a closure that names the words is no shorter.
+// `gain_rows` with no division: the weights are multiplied by 2^32 before, and each sum is divided by it. The compiler makes vectors of
+// that, over four places, and none of a division by p. It stays a call too.
+#[inline(never)]
+fn gain_long_rows<const N: usize>(
+    out: &mut [u32],
+    from: usize,
+    words: &[u32],
+    n: usize,
+    weights: [Element; N],
+)
+    requires rows { Groups N from n out.old words.now }
+    requires reduced { Weights N weights }
+    requires below { unreduced p out.old ≡ false }
+    ensures { Gained from n (rows_at N weights.entry n words.now) out.old out.new }
+{
+    let raised = steps::raised(weights);
+    // By number, as `gain_short_rows`.
+    for y in 0..n {
+        let column = Strided { first: y, apart: n };
+        let sum = steps::lowered(raised, words, column);
+        table::put(out, from + y, steps::gained(table::get(out, from + y), sum));
+    }
+}
+
+// out[from + i] gains the sum of weights[t] words[N i + t] over t, for each i below n. `gain_short_rows` differs in where a place's words
+// stand alone: two loops of two lines, and one over a closure that names the words is no shorter.
 pub fn gain_groups<const N: usize>(
     out: &mut [u32],
     from: usize,
@@ -65,7 +115,7 @@ pub fn set_groups<const N: usize>(out: &mut [u32], words: &[u32], weights: [Elem
     requires reduced { Weights N weights }
     ensures { out.new ≡ table_words (entries out.old) (words_at N weights.entry words.now) }
 {
-    let raised = steps::raised(weights);
+    let raised = steps::raised_apart(weights);
     // By number, as `gain_groups`.
     for i in 0..out.len() / 4 {
         let group = Strided {

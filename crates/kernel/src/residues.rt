@@ -22,6 +22,15 @@ pub fn residue<const N: usize>(sum: u64) -> u32
     }
 }
 
+// Of two words below p, by no test: what is below 0, wrapped, is above the word that it was. The compiler has an instruction for it, for four.
+pub fn gained(old: u32, gain: u32) -> u32
+    requires { (old < p) × (gain < p) }
+    ensures { result ≡ (old + gain) % p }
+{
+    let sum = old + gain;
+    u32::min(sum, sum.wrapping_sub(Element::MODULUS))
+}
+
 // By no division: what n has above 2^30, times 2^62 / p and over 2^32, is the quotient or one less. The compiler makes vectors of that, since
 // the remainder by 2^32, which changes nothing, tells it that it multiplies words.
 fn by_products(n: u64) -> u32

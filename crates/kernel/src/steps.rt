@@ -1,7 +1,8 @@
 // What one element gains, with one residue a coordinate.
 ghost use Rattle.std.specs.Prelude.{◌≡◌, ◌+◌, ◌-◌, ◌*◌, ◌%◌, ◌<◌, ◌≤◌, length};
 ghost use Rattle.algebra.specs.Ring.{Ops};
-ghost use Rattle.field.specs.Field.{p, field, base, from_words, Holds};
+ghost use Rattle.field.specs.Field.{p, field, base, from_words, Reduced, Holds};
+ghost use Rattle.field.specs.Inner.{unit};
 ghost use Rattle.lowering.specs.Lowering.{unit_inverse};
 ghost use Rattle.kernel.specs.Kernel.{Weights, weighed};
 ghost use Rattle.kernel.specs.Inner.{There, word_at, products, Raised};
@@ -39,7 +40,9 @@ pub fn step<const N: usize>(
     }
 }
 
-// The sum of the words, each times its weight, divided by 2^32, by no division.
+// The sum of the words, each times its weight, divided by 2^32, by no division. Copied into the loops: with two callers it would be a call for
+// each place, and nothing a vector over places.
+#[inline(always)]
 pub fn lowered<const N: usize>(weights: [Element; N], words: &[u32], at: Strided) -> Element
     requires weights { Weights N weights }
     requires words { There N words.now at }
@@ -52,6 +55,23 @@ pub fn lowered<const N: usize>(weights: [Element; N], words: &[u32], at: Strided
             lowering::lower(products(0, weights, words, at, 1)),
             lowering::lower(products(0, weights, words, at, 2)),
             lowering::lower(products(0, weights, words, at, 3)),
+        ],
+    }
+}
+
+// old, and what it gains.
+#[tactic(auto, using(field::proofs::Laws::word_below))]
+pub fn gained(old: Element, gain: Element) -> Element
+    requires { Reduced old × Reduced gain }
+    ensures { Holds result (field.add (from_words old) (from_words gain)) }
+{
+    // Four lines, as in `step`.
+    Element {
+        c: [
+            residues::gained(old.c[0], gain.c[0]),
+            residues::gained(old.c[1], gain.c[1]),
+            residues::gained(old.c[2], gain.c[2]),
+            residues::gained(old.c[3], gain.c[3]),
         ],
     }
 }
@@ -85,4 +105,17 @@ pub fn raised<const N: usize>(weights: [Element; N]) -> [Element; N]
     ensures { Raised N weights.entry result }
 {
     weights.map(lowering::raise)
+}
+
+// The same for `set_groups`, by a map of its own: a map that two functions call is copied into neither.
+pub fn raised_apart<const N: usize>(weights: [Element; N]) -> [Element; N]
+    requires weights { Weights N weights }
+    ensures { Raised N weights.entry result }
+{
+    weights.map(
+        |w|
+            requires { Reduced w }
+            ensures { Holds result (field.mul (from_words w) (base unit)) }
+        { lowering::raise(w) },
+    )
 }

@@ -1,15 +1,14 @@
 -- Demand 3 (specs/Demand3.antt). Assumes nothing.
 use mathlib.Core.Path.{◌≡◌, refl, sym, ap, ◌∙◌}
-use Prim.Native.Nat.{ℕ, ◌^◌, ◌≤◌, ◌<◌}
+use Prim.Native.Nat.{ℕ, ◌+◌, ◌*◌, ◌^◌, ◌≤◌, ◌<◌}
 use mathlib.Core.List.{List, [], ◌∷◌}
 use lib.ListN.{length, get_or}
 use borrow.Author.Tests.{lt-leb, le-leb}
-use Rattle.algebra.specs.Sum.{sum_to}
 use Rattle.multilinear.specs.declared.Weight.TheVariants.{Shifted, Next}
 use Rattle.multilinear.specs.Successors.{eval_next, last_row, next_at}
 use Rattle.multilinear.specs.Equality.{eq_at}
 use Rattle.multilinear.specs.Values.{value_at}
-use Rattle.multilinear.specs.Folds.{word_of, fold_at}
+use Rattle.multilinear.specs.Folds.{word_of}
 use Rattle.multilinear.proofs.Halves.{sum_scaled}
 use Rattle.multilinear.proofs.Successors.{successor_laws}
 use Rattle.multilinear.proofs.Folds.{fold_laws}
@@ -19,49 +18,54 @@ use Rattle.table.specs.Table.{get_at, element_at}
 use Rattle.table.specs.Refusals.{verdict, Outcome, alone, evaluated}
 use Rattle.table.proofs.Laws.{table_words_at, table_at, elements_length}
 use Rattle.plan.specs.declared.Plan.{Plan}
-use Rattle.plan.specs.Plan.{places, coordinates_of, weight_in, place_of}
+use Rattle.plan.specs.Plan.{rows, places, width, coordinates_of, place_of, out_of}
+use Rattle.plan.specs.Columns.{plain_at, column_of}
+use Rattle.plan.proofs.Columns.{single, column_at}
+use Rattle.plan.proofs.Sections.{group_within}
 use Rattle.ledger.specs.Session.{State, Args, planned, open_answer, read_answer}
 use Rattle.ledger.specs.Ledger.{Call, feed, close, read, run, session_step, joined}
 use Rattle.ledger.specs.Demand3.{answers, after, unread, unread_answers, place_at, with_weight, last_gain, Demand3}
 use Rattle.ledger.proofs.Ledgers.{session_is_ledger, read_after, words_are, out_is}
 use Rattle.ledger.proofs.Unopened.{unopened}
 
-pub element_is : (a : Args) (out : List ℕ) → open_answer a out ≡ 0 → (cs : List Call) (i : ℕ) → i < places (planned a)
-    → element_at (after a out cs).out i ≡ place_of (planned a) (λ t. base (get_or (joined cs (answers a out cs)) t 0)) i
-element_is a out h cs i b = ap (λ w. element_at w i) (out_is a out h cs) ∙ table_at (places (planned a)) _ i b
+-- element m of out, and its place and column
+pub element_is : (a : Args) (out : List ℕ) → open_answer a out ≡ 0 → (cs : List Call) (m : ℕ) → m < width (planned a)
+    → element_at (after a out cs).out m ≡ out_of (planned a) (λ t. base (get_or (joined cs (answers a out cs)) t 0)) m
+element_is a out h cs m b = ap (λ w. element_at w m) (out_is a out h cs) ∙ table_at (width (planned a)) _ m b
 
--- a plan has k coordinates
-count : (plan : Plan) → length (coordinates_of plan) ≡ plan.k
-count plan = elements_length plan.coordinates 0 plan.k
+pub column_is : (a : Args) (out : List ℕ) → open_answer a out ≡ 0 → (cs : List Call) (i j : ℕ) → i < places (planned a) → j < a.columns
+    → element_at (after a out cs).out (i * a.columns + j)
+    ≡ place_of (planned a) (λ t. base (get_or (joined cs (answers a out cs)) t 0)) i j
+column_is a out h cs i j b l =
+    element_is a out h cs (i * a.columns + j) (group_within i a.columns j (places (planned a)) b l)
+    ∙ column_at (planned a) _ i j l
 
--- a place of a fold, with the scale outside of the sum
-place_is : (plan : Plan) (ws : List ℕ) (i : ℕ) → place_of plan (λ t. base (get_or ws t 0)) i ≡ place_at plan ws i
-unfolding fold_at
-place_is plan ws i =
-    sum_scaled field_ring (2 ^ length (coordinates_of plan)) _ _ (from_words plan.scale) (λ y b. field_ring.mul_assoc _ _ _)
-    ∙ ap
-    (λ k. field.mul (from_words plan.scale)
-    (sum_to field (2 ^ k) (λ y. field.mul (weight_in plan y) (base (get_or ws (word_of plan.side (places plan) (2 ^ k) i y) 0)))))
-    (count plan)
+-- column j of a place of a fold, with the scale outside of the sum
+place_is : (plan : Plan) (ws : List ℕ) (i j : ℕ) → place_of plan (λ t. base (get_or ws t 0)) i j ≡ place_at plan ws i j
+unfolding place_of
+place_is plan ws i j = sum_scaled field_ring (rows plan) _ _ (from_words plan.scale) (λ y b. field_ring.mul_assoc _ _ _)
 
-out_holds : (a : Args) (out : List ℕ) → open_answer a out ≡ 0 → (cs : List Call) (i : ℕ) → i < places (planned a)
-    → get_at (after a out cs).out i ≡ to_words (place_at (planned a) (joined cs (answers a out cs)) i)
-out_holds a out h cs i b =
-    ap (λ w. get_at w i) (out_is a out h cs) ∙ table_words_at (places (planned a)) _ i b
-    ∙ ap to_words (place_is (planned a) (joined cs (answers a out cs)) i)
+out_holds : (a : Args) (out : List ℕ) → open_answer a out ≡ 0 → (cs : List Call) (i j : ℕ) → i < places (planned a) → j < a.columns
+    → get_at (after a out cs).out (i * a.columns + j) ≡ to_words (place_at (planned a) (joined cs (answers a out cs)) i j)
+out_holds a out h cs i j b l =
+    ap (λ w. get_at w (i * a.columns + j)) (out_is a out h cs)
+    ∙ table_words_at (width (planned a)) _ (i * a.columns + j) (group_within i a.columns j (places (planned a)) b l)
+    ∙ ap to_words (column_at (planned a) _ i j l ∙ place_is (planned a) (joined cs (answers a out cs)) i j)
 
-read_holds : (a : Args) (out : List ℕ) → open_answer a out ≡ 0 → (cs : List Call) (i : ℕ) → i < places (planned a)
-    → read_answer (after a out cs) i ≡ evaluated 0 (place_at (planned a) (joined cs (answers a out cs)) i)
+read_holds : (a : Args) (out : List ℕ) → open_answer a out ≡ 0 → (cs : List Call) (i j : ℕ) → i < places (planned a) → j < a.columns
+    → read_answer (after a out cs) (i * a.columns + j) ≡ evaluated 0 (place_at (planned a) (joined cs (answers a out cs)) i j)
 unfolding verdict
-read_holds a out h cs i b =
-    read_after a out h cs i
-    ∙ rw (lt-leb (places (planned a)) i b, words_are a out h cs)
-    (ap (evaluated 0) (table_at (places (planned a)) _ i b ∙ place_is (planned a) (joined cs (answers a out cs)) i))
+read_holds a out h cs i j b l =
+    let m : i * a.columns + j < width (planned a) = group_within i a.columns j (places (planned a)) b l in
+    read_after a out h cs (i * a.columns + j)
+    ∙ rw (lt-leb (width (planned a)) (i * a.columns + j) m, words_are a out h cs)
+    (ap (evaluated 0) (table_at (width (planned a)) _ (i * a.columns + j) m ∙ column_at (planned a) _ i j l
+    ∙ place_is (planned a) (joined cs (answers a out cs)) i j))
 
-no_place : (a : Args) (out : List ℕ) → open_answer a out ≡ 0 → (cs : List Call) (i : ℕ) → places (planned a) ≤ i
-    → read_answer (after a out cs) i ≡ alone 14
+no_place : (a : Args) (out : List ℕ) → open_answer a out ≡ 0 → (cs : List Call) (place : ℕ) → width (planned a) ≤ place
+    → read_answer (after a out cs) place ≡ alone 14
 unfolding verdict
-no_place a out h cs i b = read_after a out h cs i ∙ rw (le-leb (places (planned a)) i b) refl
+no_place a out h cs place b = read_after a out h cs place ∙ rw (le-leb (width (planned a)) place b) refl
 
 apart : (cs : List Call) (st : State)
     → run session_step (unread cs) st ≡ (unread_answers cs (run session_step cs st).0, (run session_step cs st).1)
@@ -72,23 +76,26 @@ apart (read place ∷ cs) st = apart cs st
 
 next_adds : (a : Args) (out out' : List ℕ) → open_answer (with_weight a Shifted) out ≡ 0 → open_answer (with_weight a Next) out' ≡ 0
     → (cs ds : List Call) → joined cs (answers (with_weight a Shifted) out cs) ≡ joined ds (answers (with_weight a Next) out' ds)
-    → (i : ℕ) → i < places (planned a)
-    → element_at (after (with_weight a Next) out' ds).out i
-    ≡ field.add (element_at (after (with_weight a Shifted) out cs).out i)
-    (last_gain (planned a) (joined cs (answers (with_weight a Shifted) out cs)) i)
-next_adds a out out' h h' cs ds e i b =
+    → (i j : ℕ) → i < places (planned a) → j < a.columns
+    → element_at (after (with_weight a Next) out' ds).out (i * a.columns + j)
+    ≡ field.add (element_at (after (with_weight a Shifted) out cs).out (i * a.columns + j))
+    (last_gain (planned a) (joined cs (answers (with_weight a Shifted) out cs)) i j)
+next_adds a out out' h h' cs ds e i j b l =
     let plan = planned a in
     let ws = joined cs (answers (with_weight a Shifted) out cs) in
+    let word : ℕ → Ext = λ t. base (get_or ws t 0) in
     let zs = coordinates_of plan in
-    element_is (with_weight a Next) out' h' ds i b
-    ∙ ap (λ us. place_of (planned (with_weight a Next)) (λ t. base (get_or us t 0)) i) (sym e)
-    ∙ (fold_laws field_ring).next plan.side (places plan) zs (from_words plan.scale) (λ t. base (get_or ws t 0)) i
+    column_is (with_weight a Next) out' h' ds i j b l
+    ∙ ap (λ us. place_of (planned (with_weight a Next)) (λ t. base (get_or us t 0)) i j) (sym e)
+    ∙ single (planned (with_weight a Next)) word i j
+    ∙ (fold_laws field_ring).next plan.side (places plan) zs (from_words plan.scale) (column_of plan word j) i
     ∙ ap
-    (λ k. field.add (place_of (planned (with_weight a Shifted)) (λ t. base (get_or ws t 0)) i)
+    (λ k. field.add (plain_at (planned (with_weight a Shifted)) (places plan) (column_of plan word j) i)
     (field.mul (field.mul (from_words plan.scale) (eq_at field zs (last_row field zs)))
-    (base (get_or ws (word_of plan.side (places plan) (2 ^ k) i (last_row field zs)) 0))))
-    (count plan)
-    ∙ ap (λ x. field.add x (last_gain plan ws i)) (sym (element_is (with_weight a Shifted) out h cs i b))
+    (word (word_of plan.side (places plan) (2 ^ k) i (last_row field zs) * plan.columns + j))))
+    (elements_length plan.coordinates 0 plan.k)
+    ∙ ap (λ x. field.add x (last_gain plan ws i j))
+    (sym (single (planned (with_weight a Shifted)) word i j) ∙ sym (column_is (with_weight a Shifted) out h cs i j b l))
 
 next_is : (ss ts : List Ext) → length ss ≡ length ts
     → value_at field ts (next_at field ss) ≡ field.add (eval_next field ss ts).done (eval_next field ss ts).omega

@@ -12,7 +12,7 @@ use Rattle.table.specs.Table.{entries}
 use Rattle.table.specs.Refusals.{alone, most}
 use Rattle.table.proofs.Verdicts.{clear}
 use Rattle.plan.specs.declared.Plan.{Plan}
-use Rattle.plan.specs.Plan.{places, capacity, fold_of}
+use Rattle.plan.specs.Plan.{width, capacity, fold_of}
 use Rattle.plan.specs.Sound.{Sound}
 use Rattle.plan.proofs.Joining as joining
 use Rattle.ledger.specs.Session.{State, state, Args, planned, session_of, open_answer, open_leaves, nonzero, fed, feed_leaves, close_leaves, read_answer}
@@ -60,9 +60,9 @@ module _ (a : Args) (out : List ℕ) (h : open_answer a out ≡ 0) where
   abbrev ok : Opened a out
   ok = opened a out (sym h)
 
-  -- out has an element for each place
-  pub places_there : entries out ≡ places (planned a)
-  places_there = omega (arith, ok.room)
+  -- out has an element for each column of each place
+  pub elements_there : entries out ≡ width (planned a)
+  elements_there = omega (arith, ok.room)
 
   unused_zero : nonzero (drop (4 * (planned a).k) (planned a).coordinates) ≡ false
   unused_zero = ap nonzero (drop_at a.point _ _ (sym ok.count)) ∙ nonzero_zeros (4 * most - length a.point)
@@ -85,6 +85,9 @@ module _ (a : Args) (out : List ℕ) (h : open_answer a out ≡ 0) where
       runs session_step (ledger_step (planned a)) (Tells (planned a) ok.sound unused_zero) (step_same (planned a) ok.sound unused_zero) cs _
       empty (open_is, record { room = omega arith; full = λ b. absurd (let z : ◌≡◌ {A = ℕ} 0 1 = cc in omega arith) })
 
+  pub held_fits : (cs : List Call) → length (held cs).words ≤ capacity (planned a)
+  held_fits cs = (both_run cs).1.1.room
+
   pub session_is_ledger : (cs : List Call)
       → run session_step cs (open_leaves a out)
       ≡ ((run (ledger_step (planned a)) cs empty).0, ledger_state (planned a) (run (ledger_step (planned a)) cs empty).1)
@@ -105,6 +108,11 @@ pub words_are : (a : Args) (out : List ℕ) → open_answer a out ≡ 0 → (cs 
     → (run (ledger_step (planned a)) cs empty).1.words ≡ joined cs (answers a out cs)
 words_are a out h cs =
     ap (λ l. l.words) (told_all_lem (planned a) cs empty ∙ ap (λ q. told_all cs q.0 empty) (sym (session_is_ledger a out h cs)))
+
+-- no more than the table has
+pub words_fit : (a : Args) (out : List ℕ) → open_answer a out ≡ 0 → (cs : List Call)
+    → length (joined cs (answers a out cs)) ≤ capacity (planned a)
+words_fit a out h cs = rw (sym (words_are a out h cs)) (held_fits a out h cs)
 
 -- out is their fold
 pub out_is : (a : Args) (out : List ℕ) → open_answer a out ≡ 0 → (cs : List Call)

@@ -14,7 +14,7 @@ use Rattle.table.specs.Refusals.{Test, ◌gives◌, verdict, evaluated, most}
 use Rattle.table.proofs.Laws.{table_length}
 use Rattle.table.proofs.Tests.{unreduced_table}
 use Rattle.plan.specs.declared.Plan.{Plan}
-use Rattle.plan.specs.Plan.{places, capacity, fold_of}
+use Rattle.plan.specs.Plan.{most_on, width, capacity, fold_of}
 use Rattle.plan.specs.Sound.{Sound}
 use Rattle.ledger.specs.Session.{nonzero, record_tests, out_tests, feed_answer, close_answer, read_answer}
 use Rattle.ledger.specs.Ledger.{Ledger, ledger_feed, ledger_close, ledger_read, ledger_state}
@@ -38,6 +38,8 @@ module _ (plan : Plan) (ok : Sound plan) (unused : nonzero (drop (4 * plan.k) pl
       rw (
         le-ltb most plan.n ok.small,
         le-ltb plan.n plan.k ok.fits,
+        le-ltb plan.columns 1 ok.some_columns,
+        le-ltb (most_on plan.side) plan.columns ok.few_columns,
         le-ltb (capacity plan) (length l.words) i.room,
         ok.scale_is.words_below,
         ok.coordinates_below,
@@ -53,8 +55,8 @@ module _ (plan : Plan) (ok : Sound plan) (unused : nonzero (drop (4 * plan.k) pl
   out_fits : (l : Ledger) (ts : List Test) → verdict (out_tests (ledger_state plan l) ++ ts) ≡ verdict ts
   unfolding verdict
   out_fits l ts =
-      let there = fitting (places plan) (fold_of plan l.words) (table_length (places plan) _) in
-      rw (eq-eqb _ 0 there.1, eq-eqb _ (places plan) there.0, unreduced_table (places plan) _)
+      let there = fitting (width plan) (fold_of plan l.words) (table_length (width plan) _) in
+      rw (eq-eqb _ 0 there.1, eq-eqb _ (width plan) there.0, unreduced_table (width plan) _)
 
   -- of the tests that feed and close share only 10 is left
   only_closed : (l : Ledger) → Known plan l → (ts : List Test)
@@ -76,6 +78,6 @@ module _ (plan : Plan) (ok : Sound plan) (unused : nonzero (drop (4 * plan.k) pl
   pub read_same : (place : ℕ) (l : Ledger) → Known plan l → read_answer (ledger_state plan l) place ≡ ledger_read plan place l
   unfolding read_answer
   read_same place l i =
-      let ts = leb (places plan) place gives 14 ∷ [] in
+      let ts = leb (width plan) place gives 14 ∷ [] in
       ap (λ n. evaluated n (element_at (fold_of plan l.words) place))
       (never_broken l i (out_tests (ledger_state plan l) ++ ts) ∙ out_fits l ts)

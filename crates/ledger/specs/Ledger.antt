@@ -1,11 +1,12 @@
--- Lists of calls, and the ledger (document 01, "Fold session", second paragraph; its reads, document 02, (a)). Assumes nothing.
+-- Lists of calls, and the ledger (document 01, "Fold session", second paragraph; its reads, document 02, (a); its columns, (e)). Assumes
+-- nothing.
 use Rattle.std.specs.Prelude.{ℕ, ◌+◌, Bool, true, false, List, [], ◌∷◌, ◌++◌, ltb, leb, length}
 use Rattle.algebra.specs.Words.{unreduced}
 use Rattle.field.specs.Field.{p}
 use Rattle.table.specs.Table.{element_at}
 use Rattle.table.specs.Refusals.{Outcome, alone, ◌gives◌, verdict, leaves, evaluated}
 use Rattle.plan.specs.declared.Plan.{Plan}
-use Rattle.plan.specs.Plan.{places, capacity, fold_of}
+use Rattle.plan.specs.Plan.{width, capacity, fold_of}
 use Rattle.ledger.specs.Session.{State, state, session_of, feed_step, close_step, read_step}
 
 -- a call's kind, and its piece or place
@@ -47,13 +48,14 @@ ledger_feed plan piece l =
 abbrev pub ledger_close : Plan → Ledger → ℕ
 ledger_close plan l = verdict (l.closed gives 10 ∷ ltb (length l.words) (capacity plan) gives 9 ∷ [])
 
--- its out: at each place "the sum over the 2^k rows y of scale·weight[y]·(word of place i of row y), a word not joined being 0"
+-- its out: at each place, and in each column, "the sum over the 2^k rows y of scale·weight[y]·(word of place i of row y), a word not
+-- joined being 0"
 abbrev pub ledger_out : Plan → Ledger → List ℕ
 ledger_out plan l = fold_of plan l.words
 
 -- "told the place, answers 14 or gives that place of its out"
 abbrev pub ledger_read : Plan → ℕ → Ledger → Outcome
-ledger_read plan place l = evaluated (verdict (leb (places plan) place gives 14 ∷ [])) (element_at (ledger_out plan l) place)
+ledger_read plan place l = evaluated (verdict (leb (width plan) place gives 14 ∷ [])) (element_at (ledger_out plan l) place)
 
 -- its answer to a call
 abbrev pub ledger_answer : Plan → Call → Ledger → Outcome

@@ -1,6 +1,6 @@
--- The fold session (document 01, "Fold session"; "Refused calls": Open, Feed, Close; document 02, (a): Read): what each call answers and
--- leaves. Assumes nothing.
-use Rattle.std.specs.Prelude.{ℕ, suc, ◌+◌, ◌-◌, ◌*◌, Bool, true, false, not, ◌&&◌, ◌||◌, List, [], ◌∷◌, ◌++◌, eqb, ltb, leb, length, drop, replicate}
+-- The fold session (document 01, "Fold session"; "Refused calls": Open, Feed, Close; document 02, (a): Read; (e): columns): what each call
+-- answers and leaves. Assumes nothing.
+use Rattle.std.specs.Prelude.{ℕ, suc, ◌+◌, ◌*◌, Bool, true, false, not, ◌&&◌, ◌||◌, List, [], ◌∷◌, ◌++◌, eqb, ltb, leb, length, drop, replicate}
 use Rattle.algebra.specs.Words.{unreduced}
 use Rattle.multilinear.specs.declared.Side.{Side}
 use Rattle.multilinear.specs.declared.Side.TheVariants.{Prefix}
@@ -9,9 +9,9 @@ use Rattle.multilinear.specs.declared.Weight.TheVariants.{Plain}
 use Rattle.field.specs.Field.{p}
 use Rattle.field.specs.declared.Element.{Element}
 use Rattle.table.specs.Table.{element_at, entries}
-use Rattle.table.specs.Refusals.{Outcome, Test, ◌gives◌, verdict, leaves, evaluated, most, splits, too_many, rows_differ}
+use Rattle.table.specs.Refusals.{Outcome, Test, ◌gives◌, verdict, leaves, evaluated, most, splits, too_many, miscounts}
 use Rattle.plan.specs.declared.Plan.{Plan}
-use Rattle.plan.specs.Plan.{plan_of, places, capacity, gained_by}
+use Rattle.plan.specs.Plan.{plan_of, most_on, width, capacity, gained_by}
 use Rattle.ledger.specs.declared.Session.{Session}
 
 -- a session and the out beside it
@@ -25,41 +25,45 @@ state s out = record { session = s; out = out }
 -- open's arguments
 pub record Args : Type 0 where
   pub n : ℕ
+  pub columns : ℕ
   pub side : Side
   pub weight : Weight
   pub scale : Element
   pub point : List ℕ
 
-abbrev pub args : ℕ → Side → Weight → Element → List ℕ → Args
-args n side weight scale point = record { n = n; side = side; weight = weight; scale = scale; point = point }
+abbrev pub args : ℕ → ℕ → Side → Weight → Element → List ℕ → Args
+args n columns side weight scale point =
+    record { n = n; columns = columns; side = side; weight = weight; scale = scale; point = point }
 
 -- their plan: as many coordinates as the point has, unused ones 0
 abbrev pub planned : Args → Plan
-planned a = plan_of a.n (entries a.point) a.side a.weight a.scale a.point
+planned a = plan_of a.n (entries a.point) a.columns a.side a.weight a.scale a.point
 
 -- the record: a plan, words taken, closed
 abbrev pub session_of : Plan → ℕ → Bool → Session
 session_of plan taken closed = record { plan = plan; taken = taken; closed = closed }
 
--- Open: 1, 3, 4 (also k above n, out), 5
-abbrev pub open_tests : ℕ → Element → List ℕ → List ℕ → List Test
-open_tests n scale point out =
-    splits point gives 1
+-- Open: 1, 3, 15 ("for c outside 1 to 16 or c above 1 on the suffix side"), 4 (also k above n, out), 5
+abbrev pub open_tests : Args → List ℕ → List Test
+open_tests a out =
+    splits a.point gives 1
     ∷ splits out gives 1
-    ∷ ltb most n gives 3
-    ∷ too_many point gives 3
-    ∷ ltb n (entries point) gives 4
-    ∷ rows_differ out (n - entries point) gives 4
-    ∷ unreduced p point gives 5
-    ∷ unreduced p scale.c gives 5
+    ∷ ltb most a.n gives 3
+    ∷ too_many a.point gives 3
+    ∷ ltb a.columns 1 gives 15
+    ∷ ltb (most_on a.side) a.columns gives 15
+    ∷ ltb a.n (entries a.point) gives 4
+    ∷ miscounts out (width (planned a)) gives 4
+    ∷ unreduced p a.point gives 5
+    ∷ unreduced p a.scale.c gives 5
     ∷ []
 
 unfoldable pub open_answer : Args → List ℕ → ℕ
-open_answer a out = verdict (open_tests a.n a.scale a.point out)
+open_answer a out = verdict (open_tests a out)
 
 -- beside a refused open: a record that no session has, n being over 20, so that every call on it is 11 (`unopened` of Demand3.antt)
 unfoldable pub no_session : Session
-no_session = session_of (plan_of (suc most) 0 Prefix Plain (record { c = 0 ∷ 0 ∷ 0 ∷ 0 ∷ [] }) []) 0 false
+no_session = session_of (plan_of (suc most) 0 1 Prefix Plain (record { c = 0 ∷ 0 ∷ 0 ∷ 0 ∷ [] }) []) 0 false
 
 -- "Open zeroes out"
 abbrev pub opened : Args → List ℕ → State
@@ -77,11 +81,13 @@ unfoldable pub nonzero : List ℕ → Bool
 nonzero [] = false
 nonzero (w ∷ ws) = not (eqb w 0) || nonzero ws
 
--- 11: n over 20, k over n, taken over 2^n, a part unreduced, unused coordinate not 0, closed short of 2^n
+-- 11: n over 20, k over n, no such c, taken over c·2^n, a part unreduced, unused coordinate not 0, closed short of c·2^n
 abbrev pub record_tests : Session → List Test
 record_tests s =
     ltb most s.plan.n gives 11
     ∷ ltb s.plan.n s.plan.k gives 11
+    ∷ ltb s.plan.columns 1 gives 11
+    ∷ ltb (most_on s.plan.side) s.plan.columns gives 11
     ∷ ltb (capacity s.plan) s.taken gives 11
     ∷ unreduced p s.plan.scale.c gives 11
     ∷ unreduced p s.plan.coordinates gives 11
@@ -93,11 +99,11 @@ record_tests s =
 abbrev pub out_tests : State → List Test
 out_tests st =
     splits st.out gives 4
-    ∷ rows_differ st.out (st.session.plan.n - st.session.plan.k) gives 4
+    ∷ miscounts st.out (width st.session.plan) gives 4
     ∷ unreduced p st.out gives 5
     ∷ []
 
--- Feed: 11, 10, 4, 5 (piece or out), 8 (piece passes 2^n)
+-- Feed: 11, 10, 4, 5 (piece or out), 8 (piece passes c·2^n)
 abbrev pub feed_tests : State → List ℕ → List Test
 feed_tests st piece =
     record_tests st.session
@@ -141,9 +147,9 @@ close_leaves st = leaves (close_answer st) (state (session_of st.session.plan st
 abbrev pub close_step : State → ℕ × State
 close_step st = (close_answer st, close_leaves st)
 
--- Read: 11, 4, 5 (any word of out), 14 (a place at or above 2^(n-k)); after close as before it, so no 10
+-- Read: 11, 4, 5 (any word of out), 14 (a place at or above c·2^(n-k), "c places" for each); after close as before it, so no 10
 abbrev pub read_tests : State → ℕ → List Test
-read_tests st place = record_tests st.session ++ out_tests st ++ leb (places st.session.plan) place gives 14 ∷ []
+read_tests st place = record_tests st.session ++ out_tests st ++ leb (width st.session.plan) place gives 14 ∷ []
 
 -- the sum of one place, as out has it
 unfoldable pub read_answer : State → ℕ → Outcome

@@ -21,6 +21,7 @@ use Rattle.field.specs.Field.{Ext, field, base, from_words, Holds}
 use Rattle.field.specs.declared.Element.{Element}
 use Rattle.field.proofs.Laws.{field_ring, base_zero, read_as}
 use Rattle.table.specs.Table.{element_at, elements, put_at, placed}
+use Rattle.table.specs.Refusals.{largest}
 use Rattle.table.specs.Gained.{Gained}
 use Rattle.table.proofs.Laws.{elements_length}
 use Rattle.table.proofs.Gaining.{none, turn, gained_as, blocks, widened}
@@ -119,7 +120,7 @@ module _ (piece : Piece) where
     same : (i : ℕ) → i * rows ≡ i * 2 ^ k
     same i = ap (λ n. i * n) r
 
-    pub few_words : (piece.taken + length piece.words.now ≤ 1048576) × (inner ≤ 1048576)
+    pub few_words : (piece.taken + length piece.words.now ≤ largest) × (inner ≤ largest)
     few_words =
         let m : inner * 1 ≤ inner * rows = mul-le-mul_left inner some in
         (omega (arith, piece.fits.within, piece.fits.small), omega (arith, m, all_words, piece.fits.small))
@@ -219,11 +220,11 @@ module _ (piece : Piece) where
       skip_fits : skip ≤ 1
       skip_fits = rw s (skip_small piece.weight)
 
-      pub place_fits : {i : ℕ} → i < inner → (i * rows + rows ≤ 1048576) × (i * rows + skip ≤ 1048576) × (i < 1048576)
+      pub place_fits : {i : ℕ} → i < inner → (i * rows + rows ≤ largest) × (i * rows + skip ≤ largest) × (i < largest)
       place_fits {i} h =
           let m : suc i * rows ≤ inner * rows = mul-le-mul_right rows h in
           let n : suc i * 1 ≤ suc i * rows = mul-le-mul_left (suc i) some in
-          let e : suc i * rows ≤ 1048576 = omega (arith, m, all_words, piece.fits.small) in
+          let e : suc i * rows ≤ largest = omega (arith, m, all_words, piece.fits.small) in
           (omega (arith, e), omega (arith, e, some, skip_fits), omega (arith, e, n))
 
       pub cut_needs : {from to i : ℕ} → Reached piece from to → from ≤ i

@@ -15,6 +15,6 @@ impl<'a> Piece<'a> {
         let first = crate::skip_of(self.weight) * self.inner;
         let early = self.before(first);
         let from = self.taken.saturating_sub(first);
-        scatter::scatter(&self.words[early..], from, self.point, self.scale, out);
+        short_rows::scatter(&self.words[early..], from, self.point, self.scale, out);
     }
 }

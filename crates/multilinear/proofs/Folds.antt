@@ -1,10 +1,10 @@
 -- The laws of folds (specs/Laws.antt), over any commutative ring, and folds by words moved a row on, for the code. Assumes nothing.
 use mathlib.Core.Path.{◌≡◌, refl, sym, ap, ◌∙◌}
 use mathlib.Core.Bool.{cond}
-use Prim.Native.Nat.{ℕ, suc, ◌+◌, ◌^◌, ◌<◌, ◌≤◌}
+use Prim.Native.Nat.{ℕ, suc, ◌+◌, ◌*◌, ◌^◌, ◌<◌, ◌≤◌}
 use native.Mathlib.Omega.{arith}
 use native.Mathlib.Numerals.{add-one}
-use native.Mathlib.Nat.{add-zero as Nat·add-zero}
+use native.Mathlib.Nat.{add-zero as Nat·add-zero, add-mul, mul_assoc as mul_assoc', add_assoc as add_assoc'}
 use mathlib.Core.List.{List}
 use lib.Dec.{ltb}
 use lib.ListN.{length}
@@ -21,7 +21,7 @@ use Rattle.multilinear.specs.declared.Weight.TheVariants.{Plain, Shifted, Next}
 use Rattle.multilinear.specs.Equality.{eq_at}
 use Rattle.multilinear.specs.Successors.{last_row, shifted_at}
 use Rattle.multilinear.specs.Values.{value_at, next_value_at}
-use Rattle.multilinear.specs.Folds.{word_of, fold_at}
+use Rattle.multilinear.specs.Folds.{word_of, weight_at, fold_at}
 use Rattle.multilinear.specs.Inner.{moved_at}
 use Rattle.multilinear.specs.Laws.{FoldLaws}
 use Rattle.multilinear.proofs.Halves.{sum_scaled}
@@ -52,8 +52,17 @@ module _ {ℓ} {R : Type ℓ} {O : Ops R} (𝓡 : CommRing O) where
       sum_scaled 𝓡 (2 ^ length zs) _ _ scale
       (λ y h. ap (λ n. scale ⊗ eq_at O zs y ⊗ f n) (word_is_row side (2 ^ length zs) y) ∙ mul_assoc _ _ _)
 
+  -- the word of row y, place i and column j
+  fold_columns : (weight : Weight) (inner c : ℕ) (zs : List R) (scale : R) (f : ℕ → R) (i j : ℕ)
+      → fold_at O Prefix weight inner zs scale (λ w. f (w * c + j)) i ≡ fold_at O Prefix weight (inner * c) zs scale f (i * c + j)
+  unfolding fold_at
+  fold_columns weight inner c zs scale f i j =
+      sum_ext 𝓡 (2 ^ length zs) _ _
+      (λ y b. ap (λ n. scale ⊗ weight_at O weight zs y ⊗ f n)
+      (ap (λ n. n + j) (add-mul (y * inner) i c ∙ ap (λ n. n + i * c) (mul_assoc' y inner c)) ∙ add_assoc' (y * (inner * c)) (i * c) j))
+
   pub fold_laws : FoldLaws O
-  fold_laws = record { next = fold_next; whole = fold_whole }
+  fold_laws = record { next = fold_next; whole = fold_whole; columns = fold_columns }
 
   -- a fold goes over sums of tables
   module _ (side : Side) (weight : Weight) (inner : ℕ) (zs : List R) (scale : R) where

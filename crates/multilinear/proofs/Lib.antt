@@ -9,5 +9,6 @@ pub mod Values
 pub mod Rows
 pub mod Folds
 pub mod Weighed
+pub mod Together
 pub mod TailWeights
 pub mod Tails

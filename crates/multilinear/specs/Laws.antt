@@ -7,6 +7,7 @@ use Rattle.multilinear.specs.Successors.{last_row, shifted_at, next_at, eval_nex
 use Rattle.multilinear.specs.Beside.{eval_eq, line}
 use Rattle.multilinear.specs.Values.{value_at, next_value_at}
 use Rattle.multilinear.specs.declared.Side.{Side}
+use Rattle.multilinear.specs.declared.Side.TheVariants.{Prefix}
 use Rattle.multilinear.specs.declared.Weight.{Weight}
 use Rattle.multilinear.specs.declared.Weight.TheVariants.{Plain, Shifted, Next}
 use Rattle.multilinear.specs.Folds.{word_of, fold_at}
@@ -61,6 +62,9 @@ pub record FoldLaws {ℓ} {R : Type ℓ} (O : Ops R) : Type ℓ where
       (O.mul (O.mul scale (eq_at O zs (last_row O zs))) (f (word_of side inner (2 ^ length zs) i (last_row O zs))))
   -- a fold of all variables, on either side, is scale times the value
   pub whole : (side : Side) (zs : List R) (scale : R) (f : ℕ → R) → fold_at O side Plain 1 zs scale f 0 ≡ O.mul scale (value_at O zs f)
+  -- c columns, column j of word w being word w·c + j: on the prefix side column j of place i is place i·c + j of a fold of inner·c places
+  pub columns : (weight : Weight) (inner c : ℕ) (zs : List R) (scale : R) (f : ℕ → R) (i j : ℕ)
+      → fold_at O Prefix weight inner zs scale (λ w. f (w * c + j)) i ≡ fold_at O Prefix weight (inner * c) zs scale f (i * c + j)
 
 -- sums over the rows from row m on, by a product a coordinate
 pub record TailLaws {ℓ} {R : Type ℓ} (O : Ops R) : Type ℓ where

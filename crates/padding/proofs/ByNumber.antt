@@ -1,8 +1,9 @@
 -- The padded table by the numbers of its words (specs/ByNumber.antt). Assumes nothing.
 use mathlib.Core.Path.{◌≡◌, refl, sym, ap, ◌∙◌}
 use mathlib.Core.Bool.{Bool, true, false, cond}
-use Prim.Native.Nat.{ℕ, zero, suc, ◌+◌, ◌-◌, ◌≤◌, ◌<◌}
+use Prim.Native.Nat.{ℕ, zero, suc, ◌+◌, ◌-◌, ◌*◌, ◌^◌, ◌≤◌, ◌<◌}
 use native.Mathlib.Decide.{dec_lt}
+use native.Mathlib.Nat.{mul-pos}
 use native.Mathlib.Omega.{arith}
 use mathlib.Core.List.{List, [], ◌∷◌, ◌++◌}
 use lib.ListN.{length, get_or, take, drop, get_or-append}
@@ -13,11 +14,19 @@ use Rattle.std.proofs.lemmas.List.{get_or-take}
 use Rattle.multilinear.specs.declared.Side.{Side}
 use Rattle.multilinear.specs.declared.Side.TheVariants.{Prefix, Suffix}
 use Rattle.plan.specs.declared.Plan.{Plan}
-use Rattle.plan.specs.Plan.{places, capacity}
+use Rattle.plan.specs.Plan.{width, capacity}
 use Rattle.padding.specs.Padding.{repeats, missing_word, appended, padded_table}
 use Rattle.padding.specs.ByNumber.{word_at, ByNumber}
 use Rattle.padding.proofs.Lasting.{length_more}
 use Rattle.padding.proofs.Padded.{padded_length, padded_front, appended_front}
+
+-- a table that has words has some in each row
+row_there : (plan : Plan) → 0 < capacity plan → 0 < width plan
+row_there plan h = mul-pos (pow_pos (plan.n - plan.k)) (go plan.columns h)
+  where
+    go : (c : ℕ) → 0 < c * 2 ^ plan.n → 0 < c
+    go zero b = absurd (omega (arith, b))
+    go (suc c) b = omega arith
 
 -- a word that was appended is the one that follows those before it
 appended_at : (m : ℕ) (word : List ℕ → ℕ) (ws : List ℕ) (t : ℕ) → length ws ≤ t → t < m + length ws
@@ -53,27 +62,27 @@ module _ (plan : Plan) (came : List ℕ) where
   table = padded_table plan came
 
   abbrev again : Bool
-  again = repeats plan.side (places plan) (length came)
+  again = repeats plan.side (width plan) (length came)
 
   -- a missing word
   missing_at : (t : ℕ) → length came ≤ t → t < capacity plan
-      → word_at plan came t ≡ cond again (get_or (take t table) (t - places plan) 0) 0
+      → word_at plan came t ≡ cond again (get_or (take t table) (t - width plan) 0) 0
   missing_at t h l =
       let size : length table ≡ capacity plan = padded_length plan came (omega arith) in
       let before : length (take t table) ≡ t = length-take-le t table (omega (arith, size)) in
       appended_at (capacity plan - length came) (missing_word plan (length came)) came t h (omega arith)
-      ∙ ap (λ n. cond again (get_or (take t table) (n - places plan) 0) 0) before
+      ∙ ap (λ n. cond again (get_or (take t table) (n - width plan) 0) 0) before
 
   none_again : again ≡ false → (t : ℕ) → length came ≤ t → t < capacity plan → word_at plan came t ≡ 0
-  none_again e t h l = missing_at t h l ∙ ap (λ b. cond b (get_or (take t table) (t - places plan) 0) 0) e
+  none_again e t h l = missing_at t h l ∙ ap (λ b. cond b (get_or (take t table) (t - width plan) 0) 0) e
 
-  earlier : plan.side ≡ Prefix → places plan ≤ length came → (t : ℕ) → length came ≤ t → t < capacity plan
-      → word_at plan came t ≡ word_at plan came (t - places plan)
+  earlier : plan.side ≡ Prefix → width plan ≤ length came → (t : ℕ) → length came ≤ t → t < capacity plan
+      → word_at plan came t ≡ word_at plan came (t - width plan)
   earlier s r t h l =
-      let e : again ≡ true = ap (λ x. repeats x (places plan) (length came)) s ∙ le-leb (places plan) (length came) r in
-      let some : 0 < places plan = pow_pos (plan.n - plan.k) in
-      missing_at t h l ∙ ap (λ b. cond b (get_or (take t table) (t - places plan) 0) 0) e
-      ∙ get_or-take t table (t - places plan) 0 (omega arith)
+      let e : again ≡ true = ap (λ x. repeats x (width plan) (length came)) s ∙ le-leb (width plan) (length came) r in
+      let some : 0 < width plan = row_there plan (omega arith) in
+      missing_at t h l ∙ ap (λ b. cond b (get_or (take t table) (t - width plan) 0) 0) e
+      ∙ get_or-take t table (t - width plan) 0 (omega arith)
 
 too_few_again : (side : Side) (inner came : ℕ) → came < inner → repeats side inner came ≡ false
 too_few_again Prefix inner came h = lt-leb inner came h
@@ -87,6 +96,6 @@ by_number =
           ap (λ ws. get_or ws t 0) (sym (padded_front plan came))
           ∙ get_or-append came (drop (length came) (padded_table plan came)) 0 t h;
       earlier = λ plan came t s r h l. earlier plan came s r t h l;
-      too_few = λ plan came t f h l. none_again plan came (too_few_again plan.side (places plan) (length came) f) t h l;
-      on_suffix = λ plan came t s h l. none_again plan came (ap (λ x. repeats x (places plan) (length came)) s) t h l;
+      too_few = λ plan came t f h l. none_again plan came (too_few_again plan.side (width plan) (length came) f) t h l;
+      on_suffix = λ plan came t s h l. none_again plan came (ap (λ x. repeats x (width plan) (length came)) s) t h l;
     }

@@ -12,7 +12,6 @@ use borrow.Author.Tests.{le-leb, lt-leb}
 use Rattle.algebra.specs.Words.{unreduced}
 use Rattle.multilinear.specs.declared.Side.TheVariants.{Prefix, Suffix}
 use Rattle.multilinear.specs.Folds.{word_of}
-use Rattle.multilinear.proofs.Folds.{fold_ext, fold_none}
 use Rattle.multilinear.proofs.Tails.{tail_laws}
 use Rattle.field.specs.Field.{p, Ext, field, base, from_words}
 use Rattle.field.proofs.Laws.{field_ring, base_zero}
@@ -21,8 +20,10 @@ use Rattle.table.proofs.Gaining.{nothing, gained_as, gained_table}
 use Rattle.table.proofs.Placed.{placed_before, placed_word}
 use Rattle.table.proofs.Tests.{reduced_at}
 use Rattle.plan.specs.declared.Plan.{Plan}
-use Rattle.plan.specs.Plan.{rows, places, capacity, coordinates_of, place_of, gained_by}
-use Rattle.plan.proofs.Sections.{group_within, all_words}
+use Rattle.plan.specs.Plan.{rows, width, capacity, coordinates_of, out_of, gained_by}
+use Rattle.plan.specs.Sound.{Sound}
+use Rattle.plan.proofs.Columns.{place_ext, place_none, all_words, in_rows}
+use Rattle.plan.proofs.Sections.{group_within}
 use Rattle.padding.specs.Padding.{repeats}
 use Rattle.padding.specs.Last.{words_from, missing_words}
 use Rattle.padding.specs.Inner.{scaled_tail}
@@ -60,11 +61,11 @@ module _ (f : ℕ → ℕ) (from m : ℕ) where
 
 module _ (plan : Plan) (taken : ℕ) where
   -- no row is repeated before one came, or on the suffix side
-  pub row_short : plan.side ≡ Prefix → taken < places plan → repeats plan.side (places plan) taken ≡ false
-  row_short e h = ap (λ s. repeats s (places plan) taken) e ∙ lt-leb (places plan) taken h
+  pub row_short : plan.side ≡ Prefix → taken < width plan → repeats plan.side (width plan) taken ≡ false
+  row_short e h = ap (λ s. repeats s (width plan) taken) e ∙ lt-leb (width plan) taken h
 
-  pub on_suffix : plan.side ≡ Suffix → repeats plan.side (places plan) taken ≡ false
-  on_suffix e = ap (λ s. repeats s (places plan) taken) e
+  pub on_suffix : plan.side ≡ Suffix → repeats plan.side (width plan) taken ≡ false
+  on_suffix e = ap (λ s. repeats s (width plan) taken) e
 
 module _ (plan : Plan) (taken : ℕ) (last : List ℕ) where
   -- the missing words, and what place i gains of them
@@ -72,46 +73,47 @@ module _ (plan : Plan) (taken : ℕ) (last : List ℕ) where
   missing t = placed taken (missing_words plan taken last) t
 
   abbrev pub gain : ℕ → Ext
-  gain i = place_of plan (λ t. base (missing t)) i
+  gain i = out_of plan (λ t. base (missing t)) i
 
   -- where no row is repeated they are 0
-  module _ (e : repeats plan.side (places plan) taken ≡ false) where
+  module _ (e : repeats plan.side (width plan) taken ≡ false) where
     no_gain : (i : ℕ) → gain i ≡ field.zero
     no_gain i =
-        fold_ext field_ring _ _ _ _ _ _ (λ t. field.zero)
-        (λ t. ap base (placed_nothing _ taken _ (λ u. ap (λ b. cond b (get_or last (u % places plan) 0) 0) e) t) ∙ base_zero) i
-        ∙ fold_none field_ring _ _ _ _ _ i
+        place_ext plan _ (λ t. field.zero)
+        (λ t. ap base (placed_nothing _ taken _ (λ u. ap (λ b. cond b (get_or last (u % width plan) 0) 0) e) t) ∙ base_zero) _ _
+        ∙ place_none plan _ _
 
-    pub unpadded : {out : List ℕ} → length out ≡ 4 * places plan → unreduced p out ≡ false
+    pub unpadded : {out : List ℕ} → length out ≡ 4 * width plan → unreduced p out ≡ false
         → out ≡ gained_by plan taken (missing_words plan taken last) out
     unpadded {out} room below =
-        gained_table (places plan) gain out out
-        (gained_as gain (nothing 0 (places plan) out (λ y h. reduced_at out below (0 + y))) (λ y h. sym (no_gain y))) room
+        gained_table (width plan) gain out out
+        (gained_as gain (nothing 0 (width plan) out (λ y h. reduced_at out below (0 + y))) (λ y h. sym (no_gain y))) room
 
   -- on the prefix side, where a row came, each is the last word of its place
-  module _ (side-is : plan.side ≡ Prefix) (row-came : places plan ≤ taken) (fits : plan.k ≤ plan.n) where
-    repeated : repeats plan.side (places plan) taken ≡ true
-    repeated = ap (λ s. repeats s (places plan) taken) side-is ∙ le-leb (places plan) taken row-came
+  module _ (side-is : plan.side ≡ Prefix) (row-came : width plan ≤ taken) (ok : Sound plan) where
+    repeated : repeats plan.side (width plan) taken ≡ true
+    repeated = ap (λ s. repeats s (width plan) taken) side-is ∙ le-leb (width plan) taken row-came
 
-    place_again : (i y : ℕ) → i < places plan → (y * places plan + i) % places plan ≡ i
-    place_again i y h = mul-add-mod_self_right y (places plan) i ∙ mod-eq_of_lt h
+    place_again : (i y : ℕ) → i < width plan → (y * width plan + i) % width plan ≡ i
+    place_again i y h = mul-add-mod_self_right y (width plan) i ∙ mod-eq_of_lt h
 
-    last_there : (i y : ℕ) → i < places plan → y < rows plan → taken ≤ y * places plan + i
-        → missing (y * places plan + i) ≡ get_or last i 0
+    last_there : (i y : ℕ) → i < width plan → y < rows plan → taken ≤ y * width plan + i
+        → missing (y * width plan + i) ≡ get_or last i 0
     last_there i y h l a =
-        let w = group_within y (places plan) i (rows plan) l h in
-        placed_there _ taken (capacity plan - taken) (y * places plan + i) a (omega (arith, w, all_words plan fits))
-        ∙ ap (λ b. cond b (get_or last ((y * places plan + i) % places plan) 0) 0) repeated
+        let w = group_within y (width plan) i (rows plan) l h in
+        placed_there _ taken (capacity plan - taken) (y * width plan + i) a (omega (arith, w, all_words plan ok.fits))
+        ∙ ap (λ b. cond b (get_or last ((y * width plan + i) % width plan) 0) 0) repeated
         ∙ ap (λ n. get_or last n 0) (place_again i y h)
 
     -- the words of place i are missing from row m on
-    pub gain_is : (m i : ℕ) → i < places plan → ((y : ℕ) → y < m → y * places plan + i < taken)
-        → ((y : ℕ) → m ≤ y → taken ≤ y * places plan + i) → gain i ≡ field.mul (scaled_tail plan m) (base (get_or last i 0))
+    pub gain_is : (m i : ℕ) → i < width plan → ((y : ℕ) → y < m → y * width plan + i < taken)
+        → ((y : ℕ) → m ≤ y → taken ≤ y * width plan + i) → gain i ≡ field.mul (scaled_tail plan m) (base (get_or last i 0))
     gain_is m i h before behind =
-        (tail_laws field_ring).constant plan.side plan.weight (places plan) (coordinates_of plan) (from_words plan.scale)
+        in_rows ok (λ t. base (missing t)) i
+        ∙ (tail_laws field_ring).constant plan.side plan.weight (width plan) (coordinates_of plan) (from_words plan.scale)
         (base (get_or last i 0)) (λ t. base (missing t)) i m
-        (λ y b l. ap base (ap missing (stands y) ∙ placed_before taken _ (y * places plan + i) (before y b)) ∙ base_zero)
+        (λ y b l. ap base (ap missing (stands y) ∙ placed_before taken _ (y * width plan + i) (before y b)) ∙ base_zero)
         (λ y b l. ap base (ap missing (stands y) ∙ last_there i y h (rw (all_rows plan.coordinates plan.k) at l) (behind y b)))
       where
-        stands : (y : ℕ) → word_of plan.side (places plan) (2 ^ length (coordinates_of plan)) i y ≡ y * places plan + i
-        stands y = ap (λ s. word_of s (places plan) (2 ^ length (coordinates_of plan)) i y) side-is
+        stands : (y : ℕ) → word_of plan.side (width plan) (2 ^ length (coordinates_of plan)) i y ≡ y * width plan + i
+        stands y = ap (λ s. word_of s (width plan) (2 ^ length (coordinates_of plan)) i y) side-is

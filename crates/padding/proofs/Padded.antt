@@ -7,7 +7,6 @@ use native.Mathlib.Omega.{arith}
 use mathlib.Core.List.{List, [], ◌∷◌, ◌++◌, append-nil}
 use lib.ListN.{length, get_or, take, drop, take-append-drop}
 use lib.Seq.{append_snoc, take_all}
-use lib.Pow.{pow_pos}
 use borrow.Author.Tests.{leb-true}
 use Rattle.std.proofs.lemmas.List.{take-append-le}
 use Rattle.algebra.specs.Words.{unreduced}
@@ -16,7 +15,7 @@ use Rattle.multilinear.specs.declared.Side.{Side}
 use Rattle.multilinear.specs.declared.Side.TheVariants.{Prefix, Suffix}
 use Rattle.field.specs.Field.{p, p_pos}
 use Rattle.plan.specs.declared.Plan.{Plan}
-use Rattle.plan.specs.Plan.{places, capacity}
+use Rattle.plan.specs.Plan.{width, capacity}
 use Rattle.padding.specs.Padding.{repeats, missing_word, appended, padded_table}
 use Rattle.padding.specs.Last.{words_from, missing_words}
 use Rattle.padding.proofs.Lasting.{LastOf, length_more, one_more}
@@ -57,11 +56,11 @@ repeats_row : (side : Side) (inner came : ℕ) → repeats side inner came ≡ t
 repeats_row Prefix inner came e = (leb-true inner came e, refl)
 repeats_row Suffix inner came e = absurd (let z : ◌≡◌ {A = ℕ} 0 1 = cc in omega arith)
 
-pub padded_is : (plan : Plan) (came last : List ℕ) → (plan.side ≡ Prefix → LastOf (places plan) came last)
+pub padded_is : (plan : Plan) (came last : List ℕ) → 0 < width plan → (plan.side ≡ Prefix → LastOf (width plan) came last)
     → came ++ missing_words plan (length came) last ≡ padded_table plan came
-padded_is plan came last o =
-    missing (repeats plan.side (places plan) (length came)) (places plan) (capacity plan - length came) came last
-    (pow_pos (plan.n - plan.k)) (λ e. let h = repeats_row plan.side (places plan) (length came) e in (h.0, o h.1))
+padded_is plan came last some o =
+    missing (repeats plan.side (width plan) (length came)) (width plan) (capacity plan - length came) came last
+    some (λ e. let h = repeats_row plan.side (width plan) (length came) e in (h.0, o h.1))
 
 -- no word is missing
 pub padded_full : (plan : Plan) (ws : List ℕ) → capacity plan ≤ length ws → padded_table plan ws ≡ ws
@@ -103,7 +102,7 @@ appended_below (suc m) word ws b h =
 pub padded_below : (plan : Plan) (ws : List ℕ) → unreduced p ws ≡ false → unreduced p (padded_table plan ws) ≡ false
 padded_below plan ws h =
     appended_below (capacity plan - length ws) (missing_word plan (length ws)) ws
-    (λ vs b. word_below (repeats plan.side (places plan) (length ws)) _ (below p vs b p_pos _)) h
+    (λ vs b. word_below (repeats plan.side (width plan) (length ws)) _ (below p vs b p_pos _)) h
   where
     word_below : (b : Bool) (w : ℕ) → w < p → cond b w 0 < p
     word_below true w h = h

@@ -5,7 +5,7 @@ use Rattle.multilinear.specs.declared.Side.{Side}
 use Rattle.multilinear.specs.declared.Side.TheVariants.{Prefix, Suffix}
 use Rattle.field.specs.Field.{p}
 use Rattle.plan.specs.declared.Plan.{Plan}
-use Rattle.plan.specs.Plan.{places, capacity}
+use Rattle.plan.specs.Plan.{width, capacity}
 use Rattle.plan.specs.Sound.{Sound}
 use Rattle.padding.specs.Padding.{repeats}
 
@@ -27,19 +27,19 @@ words_from f t (suc m) = f t ∷ words_from f (suc t) m
 -- the missing words, where so many came: the last word of their place, or 0
 abbrev pub missing_words : Plan → ℕ → List ℕ → List ℕ
 missing_words plan taken last =
-    words_from (λ t. cond (repeats plan.side (places plan) taken) (get_or last (t % places plan) 0) 0)
+    words_from (λ t. cond (repeats plan.side (width plan) taken) (get_or last (t % width plan) 0) 0)
     taken (capacity plan - taken)
 
 -- a sound plan, and room for a word of each place
 pub record Keeps (plan : Plan) (last : List ℕ) : Type 0 where
   pub sound : Sound plan
-  pub last_room : places plan ≤ length last
+  pub last_room : width plan ≤ length last
 
 -- a sound plan of which so many words came, with a last word for each place, and an out of an element for each place, all reduced
 pub record Pads (plan : Plan) (taken : ℕ) (last out : List ℕ) : Type 0 where
   pub sound : Sound plan
   pub within : taken ≤ capacity plan
-  pub last_room : places plan ≤ length last
+  pub last_room : width plan ≤ length last
   pub last_below : unreduced p last ≡ false
-  pub room : length out ≡ 4 * places plan
+  pub room : length out ≡ 4 * width plan
   pub out_below : unreduced p out ≡ false

@@ -12,7 +12,7 @@ ghost use Rattle.multilinear.specs.declared.Side.TheVariants.{Prefix};
 ghost use Rattle.multilinear.specs.Tails.{tail_at};
 ghost use Rattle.field.specs.Field.{field, base, from_words, Holds};
 ghost use Rattle.table.specs.Gained.{Gained};
-ghost use Rattle.plan.specs.Plan.{places, gained_by};
+ghost use Rattle.plan.specs.Plan.{width, gained_by};
 ghost use Rattle.point.specs.Points.{coordinates};
 ghost use Rattle.padding.specs.Last.{kept, kept_on, missing_words, Keeps, Pads};
 ghost use Rattle.padding.specs.Inner.{Spreads, Rows};
@@ -25,10 +25,10 @@ use point::{Point, equality};
 // Words come from word `taken` on: on the prefix side last keeps the last one of each place. On the other side no row is repeated.
 pub fn keep(plan: &Plan, taken: usize, words: &[u32], last: &mut [u32])
     requires { Keeps plan.now last.old }
-    ensures { last.new ≡ kept_on plan.now.side (places plan.now) taken words.now last.old }
+    ensures { last.new ≡ kept_on plan.now.side (width plan.now) taken words.now last.old }
 {
     match plan.side {
-        Side::Prefix => keep_row(plan.places(), taken, words, last),
+        Side::Prefix => keep_row(plan.width(), taken, words, last),
         Side::Suffix => {}
     }
 }
@@ -74,7 +74,7 @@ fn repeat_row(plan: Plan, taken: usize, last: &[u32], out: &mut [u32])
     requires { Pads plan taken last.now out.old × (plan.side ≡ Prefix) }
     ensures { out.new ≡ gained_by plan taken (missing_words plan taken last.now) out.old }
 {
-    let inner = plan.places();
+    let inner = plan.width();
     if taken < inner {
         return;
     }

@@ -20,17 +20,17 @@ use Rattle.moved.specs.Weighed.{weight_of, Weighed}
 use Rattle.moved.proofs.Moving.{skip_small}
 use Rattle.moved.proofs.PlaceSums.{row_sum, weighed_lem}
 use Rattle.plan.specs.declared.Plan.{Plan}
-use Rattle.plan.specs.Plan.{rows, places, coordinates_of, place_of, fold_of}
+use Rattle.plan.specs.Plan.{rows, width, coordinates_of, out_of, fold_of}
 use Rattle.plan.specs.Sound.{Fills}
-use Rattle.plan.proofs.Sections.{all_words}
+use Rattle.plan.proofs.Columns.{all_words, in_rows}
 use Rattle.piece.specs.Inner.{Unowned}
 use Rattle.piece.proofs.own.Owning.{no_own}
 
 -- out has an element for each place
-pub counted : {plan : Plan} {table out : List ℕ} → Fills plan table out → entries out ≡ places plan
+pub counted : {plan : Plan} {table out : List ℕ} → Fills plan table out → entries out ≡ width plan
 counted f = omega (arith, f.room)
 
-module _ {plan : Plan} {table out : List ℕ} (f : Fills plan table out) {n : ℕ} (q : n ≡ places plan) where
+module _ {plan : Plan} {table out : List ℕ} (f : Fills plan table out) {n : ℕ} (q : n ≡ width plan) where
   -- m words for each place
   pub grouped : {m : ℕ} → m ≡ rows plan → Groups m 0 n out table × (length out ≡ 4 * n)
   grouped {m} e =
@@ -48,19 +48,20 @@ module _ {plan : Plan} {table out : List ℕ} (f : Fills plan table out) {n : �
     none_before = omega arith
 
     place_is : {m : ℕ} → m ≡ rows plan → (i : ℕ)
-        → sum_to field m (λ y. field.mul (weight_of block skip y) (base (word m i y))) ≡ place_of plan (λ t. base (get_or table t 0)) i
+        → sum_to field m (λ y. field.mul (weight_of block skip y) (base (word m i y))) ≡ out_of plan (λ t. base (get_or table t 0)) i
     place_is e i =
         ap (λ l. sum_to field l (λ y. field.mul (weight_of block skip y) (base (word l i y)))) e
-        ∙ row_sum plan.k plan.coordinates _ (places plan) skip (λ t. get_or table t 0) i block
+        ∙ row_sum plan.k plan.coordinates _ (width plan) skip (λ t. get_or table t 0) i block
         (rw s (skip_small plan.weight)) (rw none_before at b.holds)
-        ∙ ap₂ (λ d l. moved_at field d l (places plan) (coordinates_of plan) (from_words plan.scale) (λ t. base (get_or table t 0)) i) (sym side) s
+        ∙ ap₂ (λ d l. moved_at field d l (width plan) (coordinates_of plan) (from_words plan.scale) (λ t. base (get_or table t 0)) i) (sym side) s
         ∙ sym (field_ring.add_zero _)
-        ∙ ap (field.add _) (sym (no_own plan.side plan.weight (places plan) (coordinates_of plan) _ (λ t. base (get_or table t 0)) i u))
-        ∙ moved_own field_ring plan.side plan.weight (places plan) (coordinates_of plan) _ (λ t. base (get_or table t 0)) i
+        ∙ ap (field.add _) (sym (no_own plan.side plan.weight (width plan) (coordinates_of plan) _ (λ t. base (get_or table t 0)) i u))
+        ∙ moved_own field_ring plan.side plan.weight (width plan) (coordinates_of plan) _ (λ t. base (get_or table t 0)) i
+        ∙ sym (in_rows f.sound (λ t. base (get_or table t 0)) i)
 
     pub groups_fold : {m : ℕ} {weights : List Element} → m ≡ rows plan → Weighed m block skip weights → {out' : List ℕ}
         → out' ≡ table_words n (words_at m weights table) → out' ≡ fold_of plan table
     groups_fold {m} {weights} e h d =
         d ∙ rw q
-        (table_ext (places plan) _ _ λ i l.
+        (table_ext (width plan) _ _ λ i l.
         ap (weighed m weights) (λ j t. get_or table (mul_comm m i j + t) 0) ∙ weighed_lem h (word m i) ∙ place_is e i)

@@ -1,12 +1,12 @@
 -- What the inner functions take and give. No operation that users call cites it. Assumes nothing.
-use Rattle.std.specs.Prelude.{◌≡◌, ℕ, ◌+◌, ◌-◌, ◌*◌, ◌^◌, ◌≤◌, ◌<◌, min}
+use Rattle.std.specs.Prelude.{◌≡◌, ℕ, ◌+◌, ◌-◌, ◌*◌, ◌≤◌, ◌<◌, min}
 use Rattle.std.specs.Int.{div_ceil}
 use Rattle.multilinear.specs.declared.Side.{Side}
 use Rattle.multilinear.specs.declared.Side.TheVariants.{Prefix, Suffix}
 use Rattle.multilinear.specs.Equality.{eq_at}
 use Rattle.multilinear.specs.Inner.{own_at, own_weight}
 use Rattle.field.specs.Field.{Ext, field, base, from_words}
-use Rattle.table.specs.Refusals.{most}
+use Rattle.table.specs.Refusals.{largest}
 use Rattle.point.specs.Points.{coordinates}
 use Rattle.moved.specs.declared.Piece.{Piece}
 use Rattle.moved.specs.Moved.{table_word}
@@ -22,7 +22,7 @@ own_by side piece i =
 -- a row of a table of so many rows of `inner` words
 pub record Apart (row rows inner : ℕ) : Type 0 where
   pub there : row < rows
-  pub small : rows * inner ≤ 2 ^ most
+  pub small : rows * inner ≤ largest
 
 -- where the words of the row stand: on the prefix side together, on the suffix side a place's rows apart
 abbrev pub apart : Side → ℕ → ℕ → ℕ → Stand
@@ -32,8 +32,8 @@ apart Suffix row rows inner = record { row = row; start = row; stride = rows }
 -- words of a row that stand in a table of so many places
 pub record Stands (stand : Stand) (inner : ℕ) : Type 0 where
   pub some : 0 < stand.stride
-  pub near : stand.stride ≤ 2 ^ most
-  pub within : stand.start + inner * stand.stride ≤ 2 ^ most + 2 ^ most
+  pub near : stand.stride ≤ largest
+  pub within : stand.start + inner * stand.stride ≤ largest + largest
 
 -- the places whose word of the row stands before word t
 unfoldable pub reached : Stand → ℕ → ℕ → ℕ

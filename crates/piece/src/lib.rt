@@ -12,7 +12,7 @@ ghost use Rattle.std.specs.Prelude.{◌≡◌, false, ◌+◌, ◌≤◌, length
 ghost use Rattle.algebra.specs.Words.{unreduced};
 ghost use Rattle.field.specs.Field.{p};
 ghost use Rattle.point.specs.Points.{coordinates};
-ghost use Rattle.plan.specs.Plan.{places, capacity, coordinates_of, fold_of, gained_by};
+ghost use Rattle.plan.specs.Plan.{width, capacity, coordinates_of, fold_of, gained_by};
 ghost use Rattle.plan.specs.Sound.{Sound, Takes, Fills};
 
 use moved::Piece;
@@ -32,7 +32,7 @@ pub fn add(plan: &Plan, taken: usize, piece: &[u32], out: &mut [u32])
     own::add_own(side, &piece, out);
 }
 
-// A piece of a plan's table.
+// A piece of a plan's table, whose rows have c words for each place.
 fn piece_of<'a>(plan: &'a Plan, taken: usize, words: &'a [u32]) -> Piece<'a>
     requires sound { Sound plan.now }
     requires within { taken + length words.now ≤ capacity plan.now }
@@ -40,7 +40,7 @@ fn piece_of<'a>(plan: &'a Plan, taken: usize, words: &'a [u32]) -> Piece<'a>
     ensures point { coordinates result.point ≡ coordinates_of plan.now }
     ensures weight { result.weight ≡ plan.now.weight }
     ensures scale { result.scale ≡ plan.now.scale }
-    ensures inner { result.inner ≡ places plan.now }
+    ensures inner { result.inner ≡ width plan.now }
     ensures taken { result.taken ≡ taken }
     ensures words { result.words.now ≡ words.now }
 {
@@ -48,7 +48,7 @@ fn piece_of<'a>(plan: &'a Plan, taken: usize, words: &'a [u32]) -> Piece<'a>
         point: plan.point(),
         weight: plan.weight,
         scale: plan.scale,
-        inner: plan.places(),
+        inner: plan.width(),
         taken,
         words,
     }

@@ -11,9 +11,7 @@ use Rattle.algebra.proofs.Ring.{zero_add}
 use Rattle.algebra.proofs.Words.{unreduced_zeros}
 use Rattle.multilinear.specs.declared.Side.{Side}
 use Rattle.multilinear.specs.declared.Weight.{Weight}
-use Rattle.multilinear.specs.Folds.{fold_at}
-use Rattle.multilinear.proofs.Folds.{fold_ext, fold_add, fold_none}
-use Rattle.field.specs.Field.{p, p_pos, Ext, field, base}
+use Rattle.field.specs.Field.{p, p_pos, field, base}
 use Rattle.field.specs.declared.Element.{Element}
 use Rattle.field.proofs.Laws.{field_ring, base_zero}
 use Rattle.table.specs.Table.{elements, placed}
@@ -23,7 +21,8 @@ use Rattle.table.proofs.Parts.{table_zeros, elements_front}
 use Rattle.table.proofs.Placed.{placed_before, placed_word}
 use Rattle.plan.specs.declared.Plan.{Plan}
 use Rattle.plan.specs.Sound.{Takes, Fills}
-use Rattle.plan.specs.Plan.{plan_of, places, coordinates_of, place_of, fold_of, gained_by}
+use Rattle.plan.specs.Plan.{plan_of, width, coordinates_of, place_of, out_of, fold_of, gained_by}
+use Rattle.plan.proofs.Columns.{place_ext, place_add, place_none}
 
 -- u has the words before word `at` and no other, and v those and the piece's after them
 module _ (at : ℕ) (piece : List ℕ) (u v : ℕ → ℕ) (before : (t : ℕ) → t < at → v t ≡ u t) (none : (t : ℕ) → at ≤ t → u t ≡ 0)
@@ -39,30 +38,28 @@ module _ (at : ℕ) (piece : List ℕ) (u v : ℕ → ℕ) (before : (t : ℕ) �
           ap v (sym q) ∙ follows (t - at) ∙ sym (placed_word at piece (t - at)) ∙ ap (placed at piece) q in
           rw (none t (omega arith), there, base_zero) (sym (zero_add field_ring _))
 
-  pub place_joined : (side : Side) (weight : Weight) (inner : ℕ) (zs : List Ext) (scale : Ext) (i : ℕ)
-      → field.add (fold_at field side weight inner zs scale (λ t. base (u t)) i)
-      (fold_at field side weight inner zs scale (λ t. base (placed at piece t)) i)
-      ≡ fold_at field side weight inner zs scale (λ t. base (v t)) i
-  place_joined side weight inner zs scale i =
-      sym (fold_ext field_ring _ _ _ _ _ _ _ word_joined i ∙ fold_add field_ring _ _ _ _ _ _ _ i)
+  pub place_joined : (plan : Plan) (i j : ℕ)
+      → field.add (place_of plan (λ t. base (u t)) i j) (place_of plan (λ t. base (placed at piece t)) i j)
+      ≡ place_of plan (λ t. base (v t)) i j
+  place_joined plan i j = sym (place_ext plan _ _ word_joined i j ∙ place_add plan _ _ i j)
 
 module _ (plan : Plan) where
   -- the fold of some words, with a piece gained, is that of the words with the piece joined on
   pub joined : (ws piece : List ℕ) → gained_by plan (length ws) piece (fold_of plan ws) ≡ fold_of plan (ws ++ piece)
   joined ws piece =
-      table_ext (places plan) _ _
-      (λ i h. ap (λ x. field.add x (place_of plan (λ t. base (placed (length ws) piece t)) i)) (table_at (places plan) _ i h)
+      table_ext (width plan) _ _
+      (λ m h. ap (λ x. field.add x (out_of plan (λ t. base (placed (length ws) piece t)) m)) (table_at (width plan) _ m h)
       ∙ place_joined (length ws) piece (λ t. get_or ws t 0) (λ t. get_or (ws ++ piece) t 0) (λ t h. get_or-append ws piece 0 t h)
-      (λ t h. get_or-eq_default ws 0 {n = t} h) (λ t. get_or-append-add ws piece t 0) _ _ _ _ _ i)
+      (λ t h. get_or-eq_default ws 0 {n = t} h) (λ t. get_or-append-add ws piece t 0) plan _ _)
 
   -- the fold of no words is zeros
-  pub none : replicate (4 * places plan) 0 ≡ fold_of plan []
+  pub none : replicate (4 * width plan) 0 ≡ fold_of plan []
   none =
-      table_zeros (places plan)
-      ∙ sym (table_ext (places plan) _ _ (λ i h. fold_ext field_ring _ _ _ _ _ _ _ (λ t. base_zero) i ∙ fold_none field_ring _ _ _ _ _ i))
+      table_zeros (width plan)
+      ∙ sym (table_ext (width plan) _ _ (λ m h. place_ext plan _ _ (λ t. base_zero) _ _ ∙ place_none plan _ _))
 
   -- a whole table gained by zeros is its fold
-  pub whole : (table out : List ℕ) {w : List ℕ} → length out ≡ 4 * places plan → w ≡ gained_by plan 0 table (replicate (length out) 0)
+  pub whole : (table out : List ℕ) {w : List ℕ} → length out ≡ 4 * width plan → w ≡ gained_by plan 0 table (replicate (length out) 0)
       → w ≡ fold_of plan table
   whole table out e d = d ∙ ap (gained_by plan 0 table) (ap (λ m. replicate m 0) e ∙ none) ∙ joined [] table
 
@@ -78,6 +75,6 @@ begins {table = table} {out = out} f e =
     }
 
 -- the coordinates of words that are all given
-pub given : (n k : ℕ) (side : Side) (weight : Weight) (scale : Element) (point : List ℕ) → 4 * k ≤ length point
-    → coordinates_of (plan_of n k side weight scale point) ≡ elements point 0 k
-given n k side weight scale point h = elements_front point (replicate (4 * most - length point) 0) 0 k (omega arith)
+pub given : (n k c : ℕ) (side : Side) (weight : Weight) (scale : Element) (point : List ℕ) → 4 * k ≤ length point
+    → coordinates_of (plan_of n k c side weight scale point) ≡ elements point 0 k
+given n k c side weight scale point h = elements_front point (replicate (4 * most - length point) 0) 0 k (omega arith)

@@ -1,3 +1,5 @@
+pub mod Columns
+pub mod OneColumn
 pub mod Padding
 pub mod Joining
 pub mod Sections

@@ -1,3 +1,4 @@
 pub mod Plan
 pub mod Sound
+pub mod Columns
 pub mod Section

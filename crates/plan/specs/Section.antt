@@ -10,13 +10,15 @@ section_of plan held =
     record {
       n = plan.k + held;
       k = plan.k;
+      columns = plan.columns;
       side = plan.side;
       weight = plan.weight;
       scale = plan.scale;
       coordinates = plan.coordinates;
     }
 
--- where word t of the table of a section of `places` places stands in a table of `inner` places: the section's are those from `from` on
+-- where word t of the table of a section, whose rows have `places` words, stands in a table whose rows have `inner` words: the section's
+-- are those from `from` on
 unfoldable pub origin_of : Side → ℕ → ℕ → ℕ → ℕ → ℕ → ℕ
 origin_of Prefix inner rows places from t = t / places * inner + from + t % places
 origin_of Suffix inner rows places from t = from * rows + t

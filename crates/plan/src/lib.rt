@@ -1,11 +1,12 @@
 // What a fold is about: its table's variables and its point's coordinates, its side, its weight and its scale.
 //
-//     rows 2^k, places 2^(n - k)      a table of 2^n words: one for each place of each row
+//     row y    | a b c | a b c | ..      with columns a, b, c: c words for each of the 2^(n - k) places of a row,
+//              place 0  place 1          and c 2^n words in the 2^k rows of the table
 #![tactic(auto)]
 
 ghost use Rattle.std.specs.Prelude.{◌≡◌, ◌-◌, ◌*◌, ◌≤◌, length};
-ghost use Rattle.table.specs.Refusals.{most};
-ghost use Rattle.plan.specs.Plan.{padded, rows, places, capacity};
+ghost use Rattle.table.specs.Refusals.{most, most_columns};
+ghost use Rattle.plan.specs.Plan.{padded, most_on, rows, places, width, capacity};
 ghost use Rattle.plan.specs.Sound.{Sound};
 ghost use Rattle.plan.specs.Section.{section_of};
 
@@ -19,6 +20,7 @@ pub use point::WORDS;
 pub struct Plan {
     pub n: usize,
     pub k: usize,
+    pub columns: usize,
     pub side: Side,
     pub weight: Weight,
     pub scale: Element,
@@ -42,12 +44,20 @@ impl Plan {
         table::rows(self.n - self.k)
     }
 
-    // The words of the table: 2^n.
+    // The words of a row, and the elements of out: c 2^(n - k).
+    pub fn width(&self) -> usize
+        requires { (self.now.k ≤ self.now.n) × (self.now.n - self.now.k ≤ most) × (self.now.columns ≤ most_columns) }
+        ensures { result ≡ width self.now }
+    {
+        self.places() * self.columns
+    }
+
+    // The words of the table: c 2^n.
     pub fn words(&self) -> usize
-        requires { self.now.n ≤ most }
+        requires { (self.now.n ≤ most) × (self.now.columns ≤ most_columns) }
         ensures { result ≡ capacity self.now }
     {
-        table::rows(self.n)
+        self.columns * table::rows(self.n)
     }
 
     // The point of the plan's coordinates.
@@ -71,6 +81,16 @@ impl Plan {
             n: self.k + held,
             ..self
         }
+    }
+}
+
+// The most columns of a table: on the suffix side it has one.
+pub fn most_on(side: Side) -> usize
+    ensures { result ≡ most_on side }
+{
+    match side {
+        Side::Prefix => table::MOST_COLUMNS,
+        Side::Suffix => 1,
     }
 }
 

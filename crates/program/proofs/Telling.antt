@@ -6,7 +6,7 @@ use lib.ListN.{length-replicate}
 use Rattle.std.specs.Prelude.{Option, Some, None}
 use Rattle.table.specs.Refusals.{leaves}
 use Rattle.plan.specs.declared.Plan.{Plan}
-use Rattle.plan.specs.Plan.{places}
+use Rattle.plan.specs.Plan.{width}
 use Rattle.padding.specs.Padding.{padded_table}
 use Rattle.frame.specs.declared.Frame.{Frame}
 use Rattle.frame.specs.declared.Frame.TheVariants.{Open, Coordinate, Words, Close}
@@ -41,7 +41,7 @@ module _ (s : State) (ws : List ℕ) (i : Folded s ws) where
   close_alike : (x : Option Frame) → Says s.reader x → close_text x (left_by 0 s x) ≡ out_text x (came_to s ws)
   close_alike (Some Close) h =
       let plan : Plan = s.reader.session.plan in
-      sym (front (places plan) _) ∙ ap (out_lines (places plan)) ((folded_keeps.closes s ws i h).pads refl)
+      sym (front (width plan) _) ∙ ap (out_lines (width plan)) ((folded_keeps.closes s ws i h).pads refl)
       ∙ ap (λ vs. fold_lines plan (padded_table plan vs)) (append-nil ws)
   close_alike (Some (Open o)) h = refl
   close_alike (Some (Coordinate j e)) h = refl

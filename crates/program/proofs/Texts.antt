@@ -10,9 +10,10 @@ use lib.Seq.{length-take-le, take-take, take_at, drop_at}
 use Rattle.std.proofs.lemmas.List.{drop-take}
 use Rattle.frame.specs.Hex.{word_digits}
 use Rattle.table.specs.declared.Refusal.{Refusal}
-use Rattle.table.specs.declared.Refusal.TheVariants.{Split, NotPower, TooMany, Lengths, Unreduced, Constant, NoVertex, TooLong, Missing, Closed, Broken, NotFrame, Coordinates, NoPlace}
+use Rattle.table.specs.declared.Refusal.TheVariants.{Split, NotPower, TooMany, Lengths, Unreduced, Constant, NoVertex, TooLong, Missing, Closed, Broken, NotFrame, Coordinates, NoPlace, Columns}
 use Rattle.table.specs.Refusals.{number}
-use Rattle.plan.specs.Plan.{places}
+use Rattle.plan.specs.Plan.{width}
+use Rattle.plan.proofs.OneColumn.{one_width}
 use Rattle.frame.proofs.Grammar.{digits_length}
 use Rattle.runs.specs.declared.Reader.{Reader}
 use Rattle.runs.specs.Phases.{is_done}
@@ -89,21 +90,21 @@ module _ {was out : List ℕ} {places : ℕ} (there : 4 * places ≤ length out)
 
 -- after a line: at `04` the lines of out, else nothing
 module _ {r : Reader} {out : List ℕ} (ready : Ready r out) where
-  pub places_fit : 4 * places r.session.plan ≤ length out
-  places_fit = omega (arith, ready.room, pow_mono ready.few)
+  pub places_fit : 4 * width r.session.plan ≤ length out
+  places_fit = omega (arith, ready.room, one_width r.session.plan ready.one_column, pow_mono ready.few)
 
   pub done_length : length (done_text r out) ≤ 33 * 2 ^ most_places
   done_length = go (is_done r.phase)
     where
-      go : (t : Bool) → length (cond t (out_lines (places r.session.plan) out) []) ≤ 33 * 2 ^ most_places
-      go true = omega (arith, lines_length (places r.session.plan) out places_fit, ready.room, places_fit)
+      go : (t : Bool) → length (cond t (out_lines (width r.session.plan) out) []) ≤ 33 * 2 ^ most_places
+      go true = omega (arith, lines_length (width r.session.plan) out places_fit, ready.room, places_fit)
       go false = omega arith
 
   pub done_fits : is_done r.phase ≡ true → (text : List ℕ) → length text + length (done_text r out) ≤ most_text
-      → length text + 33 * places r.session.plan ≤ most_text
+      → length text + 33 * width r.session.plan ≤ most_text
   done_fits e text h =
-      let h' : length text + length (out_lines (places r.session.plan) out) ≤ most_text = rw e at h in
-      omega (arith, lines_length (places r.session.plan) out places_fit)
+      let h' : length text + length (out_lines (width r.session.plan) out) ≤ most_text = rw e at h in
+      omega (arith, lines_length (width r.session.plan) out places_fit)
 
 -- a refusal's number fits a byte
 pub number_small : (r : Refusal) → number r < 256
@@ -121,3 +122,4 @@ number_small Broken = omega arith
 number_small NotFrame = omega arith
 number_small Coordinates = omega arith
 number_small NoPlace = omega arith
+number_small Columns = omega arith

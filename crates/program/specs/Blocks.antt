@@ -1,6 +1,6 @@
 -- The program's state, fed the input byte by byte: what a block leaves, and the text that it gives to print. Assumes nothing.
 use Rattle.std.specs.Prelude.{ℕ, zero, suc, ◌*◌, ◌^◌, Bool, true, false, cond, List, [], ◌∷◌, ◌++◌, eqb, take, replicate, Option}
-use Rattle.plan.specs.Plan.{places}
+use Rattle.plan.specs.Plan.{width}
 use Rattle.frame.specs.declared.Frame.{Frame}
 use Rattle.frame.specs.Frame.{frame_of, most_line}
 use Rattle.runs.specs.Reader.{most_places}
@@ -45,7 +45,7 @@ holding f bytes = record { state = f.state; stopped = f.stopped; held = take mos
 
 -- what an accepted line prints: at `04` out, as it leaves it
 abbrev pub close_text : Option Frame → State → List ℕ
-close_text x s = at_close x (out_lines (places s.reader.session.plan) s.out)
+close_text x s = at_close x (out_lines (width s.reader.session.plan) s.out)
 
 -- what a line prints
 abbrev pub line_text : State → List ℕ → List ℕ

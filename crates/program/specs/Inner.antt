@@ -1,6 +1,6 @@
 -- What the private functions give. No operation that users call cites it. Assumes nothing.
 use Rattle.std.specs.Prelude.{ℕ, cond, List, [], ◌∷◌, ◌++◌, eqb}
-use Rattle.plan.specs.Plan.{places}
+use Rattle.plan.specs.Plan.{width}
 use Rattle.runs.specs.declared.Reader.{Reader}
 use Rattle.runs.specs.Phases.{is_done}
 use Rattle.program.specs.Printed.{line_feed, out_lines}
@@ -17,7 +17,7 @@ text_of f = line_text f.state f.held
 
 -- what is printed after an accepted line
 abbrev pub done_text : Reader → List ℕ → List ℕ
-done_text r out = cond (is_done r.phase) (out_lines (places r.session.plan) out) []
+done_text r out = cond (is_done r.phase) (out_lines (width r.session.plan) out) []
 
 -- a line that has ended
 abbrev pub ended : Fed → Fed

@@ -3,7 +3,7 @@
 use Rattle.std.specs.Prelude.{ℕ, zero, suc, cond, List, [], ◌∷◌, ◌++◌, eqb, take, drop, Option, Some, None}
 use Rattle.table.specs.Refusals.{leaves}
 use Rattle.plan.specs.declared.Plan.{Plan}
-use Rattle.plan.specs.Plan.{places, fold_of}
+use Rattle.plan.specs.Plan.{width, fold_of}
 use Rattle.padding.specs.Padding.{padded_table}
 use Rattle.frame.specs.declared.Frame.{Frame}
 use Rattle.frame.specs.declared.Frame.TheVariants.{Open, Coordinate, Words, Close}
@@ -67,7 +67,7 @@ next line s =
 
 -- the lines of a table's fold, an element for each place
 abbrev pub fold_lines : Plan → List ℕ → List ℕ
-fold_lines plan table = out_lines (places plan) (fold_of plan table)
+fold_lines plan table = out_lines (width plan) (fold_of plan table)
 
 -- "Out lines are printed at `04`"; an accepted line of another kind prints nothing
 abbrev pub at_close : Option Frame → List ℕ → List ℕ

@@ -32,7 +32,7 @@ pub fn put_out(reader: &Reader, out: &[u32], text: &mut Buffer<u8, MOST_TEXT>)
     if !reader.phase.is_done() {
         return;
     }
-    let places = reader.session.plan.places();
+    let places = reader.session.plan.width();
     put_elements(out, places, text);
 }
 

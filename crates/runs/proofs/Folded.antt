@@ -1,7 +1,7 @@
 -- Out's used words are the fold of the words that the accepted `03` lines brought, and after `04` of the padded table. Assumes nothing.
-use mathlib.Core.Path.{◌≡◌, sym, ap, ap₂, ◌∙◌}
+use mathlib.Core.Path.{◌≡◌, refl, sym, ap, ap₂, ◌∙◌}
 use mathlib.Core.Bool.{true, false}
-use Prim.Native.Nat.{ℕ, ◌-◌, ◌*◌, ◌^◌, ◌≤◌}
+use Prim.Native.Nat.{ℕ, ◌-◌, ◌*◌, ◌^◌, ◌≤◌, ◌<◌}
 use native.Mathlib.Omega.{arith}
 use mathlib.Core.List.{List, [], ◌++◌, append-nil}
 use lib.ListN.{length, take, drop, replicate}
@@ -11,7 +11,8 @@ use Rattle.multilinear.specs.declared.Side.TheVariants.{Prefix}
 use Rattle.field.specs.declared.Element.{Element}
 use Rattle.table.proofs.Laws.{table_length}
 use Rattle.plan.specs.declared.Plan.{Plan}
-use Rattle.plan.specs.Plan.{places, fold_of, gained_by}
+use Rattle.plan.specs.Plan.{width, fold_of, gained_by}
+use Rattle.plan.proofs.OneColumn.{one_width}
 use Rattle.plan.proofs.Padding.{take_zeros}
 use Rattle.plan.proofs.Joining as plan
 use Rattle.padding.specs.Padding.{padded_table}
@@ -34,7 +35,7 @@ pub record Folded (s : State) (ws : List ℕ) : Type 0 where
   pub room : is_opened s.reader.phase ≡ false → length s.out ≡ 4 * 2 ^ most_places
   pub last_room : length s.last ≡ 2 ^ most_places
   pub few : is_opened s.reader.phase ≡ true → s.reader.session.plan.n - s.reader.session.plan.k ≤ most_places
-  pub lasts : s.reader.session.plan.side ≡ Prefix → LastOf (places s.reader.session.plan) ws s.last
+  pub lasts : s.reader.session.plan.side ≡ Prefix → LastOf (width s.reader.session.plan) ws s.last
   pub folds : is_opened s.reader.phase ≡ true → is_done s.reader.phase ≡ false
       → take (used s.reader) s.out ≡ fold_of s.reader.session.plan ws
   pub pads : is_done s.reader.phase ≡ true
@@ -57,11 +58,15 @@ folded_start out last l =
 opened_folds : (f : Opening) (out : List ℕ) → Opens f → length out ≡ 4 * 2 ^ most_places
     → take (used (opened f)) (replicate (length out) 0) ≡ fold_of (opened f).session.plan []
 opened_folds f out h l =
-    take_zeros (used (opened f)) (length out) (omega (arith, pow_mono h.few)) ∙ plan.none (opened f).session.plan
+    take_zeros (used (opened f)) (length out) (omega (arith, one_width ((opened f).session.plan) refl, pow_mono h.few)) ∙ plan.none (opened f).session.plan
 
 module _ (s : State) (ws : List ℕ) (d : Folded s ws) where
   abbrev was : Plan
   was = s.reader.session.plan
+
+  -- a row has a word for each place, in one column
+  row_there : 0 < width was
+  row_there = omega (arith, one_width was d.counted.one, pow_pos (was.n - was.k))
 
   -- at `02` another coordinate is put, and nothing was folded yet
   put_folds : s.reader.phase ≡ phase.Points → (i : ℕ) (e : Element)
@@ -75,7 +80,7 @@ module _ (s : State) (ws : List ℕ) (d : Folded s ws) where
   gained_folds : (more : List ℕ) → is_opened s.reader.phase ≡ true → is_done s.reader.phase ≡ false
       → take (used s.reader) (gained s.reader more s.out) ≡ fold_of was (ws ++ more)
   gained_folds more q g =
-      take_at _ (drop (used s.reader) s.out) (used s.reader) (table_length (places was) _)
+      take_at _ (drop (used s.reader) s.out) (used s.reader) (table_length (width was) _)
       ∙ ap₂ (λ n l. gained_by was n more l) d.counted.count (d.folds q g)
       ∙ plan.joined was ws more
 
@@ -86,14 +91,14 @@ module _ (s : State) (ws : List ℕ) (d : Folded s ws) where
   closed_folds q g =
       gained_folds (missing_words was s.reader.session.taken s.last) q g
       ∙ ap (λ n. fold_of was (ws ++ missing_words was n s.last)) d.counted.count
-      ∙ ap (fold_of was) (padded_is was ws s.last d.lasts)
+      ∙ ap (fold_of was) (padded_is was ws s.last row_there d.lasts)
 
   -- at `03` the last word of each place is kept
   fed_lasts : (more : List ℕ) → is_opened s.reader.phase ≡ true → was.side ≡ Prefix
-      → LastOf (places was) (ws ++ more) (kept_on was.side (places was) s.reader.session.taken more s.last)
+      → LastOf (width was) (ws ++ more) (kept_on was.side (width was) s.reader.session.taken more s.last)
   fed_lasts more q e =
       rw (e, d.counted.count)
-      (last_kept (places was) ws more s.last (pow_pos (was.n - was.k)) (omega (arith, d.last_room, pow_mono (d.few q))) (d.lasts e))
+      (last_kept (width was) ws more s.last row_there (omega (arith, d.last_room, one_width was d.counted.one, pow_mono (d.few q))) (d.lasts e))
 
 pub folded_keeps : Keeps words_by Folded
 folded_keeps =

@@ -36,6 +36,7 @@ runs =
     record {
       unopened = λ ls out last q. (opened ls out last).none q;
       opened_by = λ ls out last q. (opened ls out last).held q;
+      one_column = λ ls out last. (counted ls out last).one;
       folds = λ ls out last l q d. (folded ls out last l).folds q d;
       pads = λ ls out last l d. (folded ls out last l).pads d;
       takes = λ ls out last. (counted ls out last).count;

@@ -55,4 +55,4 @@ pub within_line : (l : List ℕ) (r : Reader) (ws : List ℕ) → Within (state 
     → Within (state (turned r (frame_of l)).1 [] []) (ws ++ brings words_by l (state r [] []))
 within_line l r ws i =
     let h = step_keeps words_by Within within_keeps l (state r [] []) ws i in
-    record { counted = record { count = h.counted.count; none = h.counted.none }; fits = h.fits; below = h.below }
+    record { counted = record { count = h.counted.count; none = h.counted.none; one = h.counted.one }; fits = h.fits; below = h.below }

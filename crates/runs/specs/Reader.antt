@@ -10,7 +10,7 @@ use Rattle.table.specs.Table.{put_at}
 use Rattle.table.specs.declared.Refusal.{Refusal}
 use Rattle.table.specs.Refusals.{answer, Test, ◌gives◌, verdict, leaves, most}
 use Rattle.plan.specs.declared.Plan.{Plan}
-use Rattle.plan.specs.Plan.{plan_of, places, capacity, gained_by}
+use Rattle.plan.specs.Plan.{plan_of, width, capacity, gained_by}
 use Rattle.plan.specs.Sound.{Sound}
 use Rattle.padding.specs.Last.{kept_on, missing_words}
 use Rattle.ledger.specs.declared.Session.{Session}
@@ -85,9 +85,9 @@ line_tests r x = shared_tests r.phase x ++ own_tests r x
 unfoldable pub line_answer : Reader → Option Frame → ℕ
 line_answer r x = verdict (line_tests r x)
 
--- the session of these arguments, every coordinate 0 as yet
+-- the session of these arguments, of one column, every coordinate 0 as yet
 abbrev pub session_by : Opening → Session
-session_by o = session_of (plan_of o.n o.k o.side o.weight o.scale []) 0 false
+session_by o = session_of (plan_of o.n o.k 1 o.side o.weight o.scale []) 0 false
 
 -- before the first line
 unfoldable pub started : Reader
@@ -111,7 +111,15 @@ opened o =
 -- the same plan, with other coordinates
 abbrev pub with_coordinates : Plan → List ℕ → Plan
 with_coordinates plan ws =
-    record { n = plan.n; k = plan.k; side = plan.side; weight = plan.weight; scale = plan.scale; coordinates = ws }
+    record {
+      n = plan.n;
+      k = plan.k;
+      columns = plan.columns;
+      side = plan.side;
+      weight = plan.weight;
+      scale = plan.scale;
+      coordinates = ws;
+    }
 
 -- the same session, with another coordinate i
 abbrev pub with_coordinate : Session → ℕ → Element → Session
@@ -143,9 +151,9 @@ taken r (Some (Words words)) = counted r words
 taken r (Some Close) = done r
 taken r None = r
 
--- the words of out that the session has: an element for each place
+-- the words of out that the session has: an element for each place, in one column
 abbrev pub used : Reader → ℕ
-used r = 4 * places r.session.plan
+used r = 4 * width r.session.plan
 
 -- out with the words that follow those taken: as the session's feed leaves it
 abbrev pub gained : Reader → List ℕ → List ℕ → List ℕ
@@ -161,7 +169,7 @@ out_by r None out last = out
 
 -- the last word of each place after a line: at `03` with the line's words, on the prefix side
 abbrev pub last_by : Reader → Option Frame → List ℕ → List ℕ
-last_by r (Some (Words words)) last = kept_on r.session.plan.side (places r.session.plan) r.session.taken words last
+last_by r (Some (Words words)) last = kept_on r.session.plan.side (width r.session.plan) r.session.taken words last
 last_by r (Some (Open o)) last = last
 last_by r (Some (Coordinate index coordinate)) last = last
 last_by r (Some Close) last = last
@@ -191,6 +199,7 @@ last_after r x last = leaves (line_answer r x) (last_by r x last) last
 -- what every line finds: the state's numbers in their limits, its words and out's below p
 pub record Ready (r : Reader) (out : List ℕ) : Type 0 where
   pub sound : Sound r.session.plan
+  pub one_column : r.session.plan.columns ≡ 1
   pub few : r.session.plan.n - r.session.plan.k ≤ most_places
   pub within : r.session.taken ≤ capacity r.session.plan
   pub room : length out ≡ 4 * 2 ^ most_places

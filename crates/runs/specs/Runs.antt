@@ -106,6 +106,8 @@ pub record Runs : Type 0 where
   -- from it on one was, and the session has the fields that stand in that line
   pub opened_by : (ls : List (List ℕ)) (out last : List ℕ) → is_opened (after ls (start out last)).reader.phase ≡ true
       → openings ls (start out last) ≡ held_by (after ls (start out last)).reader.session ∷ []
+  -- and one column: frames have no more
+  pub one_column : (ls : List (List ℕ)) (out last : List ℕ) → (after ls (start out last)).reader.session.plan.columns ≡ 1
   -- before `04` out is the ledger's of the joined words: at each place the sum over the rows of scale·weight·word, a missing word being 0
   pub folds : (ls : List (List ℕ)) (out last : List ℕ) → Rooms out last
       → let s = after ls (start out last) in is_opened s.reader.phase ≡ true → is_done s.reader.phase ≡ false

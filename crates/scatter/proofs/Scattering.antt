@@ -20,7 +20,7 @@ use Rattle.field.specs.declared.Element.{Element}
 use Rattle.field.proofs.Laws.{field_ring, base_zero, read_as}
 use Rattle.table.specs.Table.{element_at, elements, entries, placed}
 use Rattle.table.specs.Gained.{Gained}
-use Rattle.table.specs.Refusals.{most}
+use Rattle.table.specs.Refusals.{largest}
 use Rattle.table.proofs.Laws.{elements_length}
 use Rattle.table.proofs.Gaining.{nothing, gained_as, added, widened}
 use Rattle.table.proofs.Parts.{after, after_length, after_below, elements_drop}
@@ -104,7 +104,7 @@ module _ {from : ℕ} {rest : Point} {words out : List ℕ} {weight : Element} (
         ap (λ n. 2 ^ n * inner) q ∙ ap (λ n. n * inner) (two-pow-succ (rest.count - 1))
         ∙ add-mul (2 ^ (rest.count - 1)) (2 ^ (rest.count - 1)) inner
 
-    pub half_fits : {rows : ℕ} → rows ≡ 2 ^ (rest.count - 1) → rows * inner ≤ 2 ^ most
+    pub half_fits : {rows : ℕ} → rows ≡ 2 ^ (rest.count - 1) → rows * inner ≤ largest
     half_fits e = rw e (omega (arith, twice, s.small))
 
     module _ (rows : ℕ) (r : rows ≡ 2 ^ (rest.count - 1)) (start cut : ℕ) (b : start ≡ min from (rows * inner))

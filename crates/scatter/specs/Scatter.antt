@@ -8,7 +8,7 @@ use Rattle.field.specs.Field.{p, Ext, field, base, from_words, Reduced}
 use Rattle.field.specs.declared.Element.{Element}
 use Rattle.table.specs.Table.{element_at, entries, placed}
 use Rattle.table.specs.Gained.{Gained}
-use Rattle.table.specs.Refusals.{most}
+use Rattle.table.specs.Refusals.{largest}
 use Rattle.point.specs.declared.Point.{Point}
 use Rattle.point.specs.Points.{coordinates}
 use Rattle.kernel.specs.Kernel.{Groups}
@@ -16,7 +16,7 @@ use Rattle.kernel.specs.Kernel.{Groups}
 -- words from word `from` on of rows of as many words as out has elements, the coordinates that are left, and a weight
 pub record Scatters (from : ℕ) (rest : Point) (weight : Element) (words out : List ℕ) : Type 0 where
   pub weight_is : Reduced weight
-  pub small : 2 ^ rest.count * entries out ≤ 2 ^ most
+  pub small : 2 ^ rest.count * entries out ≤ largest
   pub within : from + length words ≤ 2 ^ rest.count * entries out
   pub below : unreduced p words ≡ false
   pub room : length out ≡ 4 * entries out

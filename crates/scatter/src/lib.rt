@@ -61,7 +61,7 @@ pub fn scatter(words: &[u32], at: usize, rest: Point, weight: Element, out: &mut
 // Four whole rows, with one reduction a place and coordinate.
 fn four_rows(words: &[u32], rest: Point, weight: Element, out: &mut [u32])
     requires two { (rest.count ≡ 2) × Reduced weight }
-    requires rows { Groups 4 0 (entries out.old) out.old words.now }
+    requires rows { Groups 4 0 (entries out.old) out.old words.now × (unreduced p out.old ≡ false) }
     ensures { Gained 0 (entries out.old)
         (whole_rows rest.entry weight (entries out.old) words.now)
         out.old out.new }

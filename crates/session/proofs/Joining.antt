@@ -1,14 +1,15 @@
 -- Lists of tests one behind the other, as a session's go: the answer of the first, and then of the others; and what a record's sizes are
 -- behind its tests. Assumes nothing.
-use Rattle.std.proofs.Common.{◌≡◌, refl, sym, ℕ, ◌≤◌, Bool, true, false, List, [], ◌∷◌, ◌++◌}
+use Rattle.std.proofs.Common.{◌≡◌, refl, sym, ℕ, ◌≤◌, Bool, true, false, List, [], ◌∷◌, ◌++◌, ltb}
 use borrow.Author.Tests.{ltb-false}
 use mathlib.Core.Bool.{cond}
 use Rattle.std.specs.Prelude.{◌||◌}
-use Rattle.table.specs.Refusals.{Test, ◌gives◌, number, verdict, most}
+use Rattle.table.specs.Refusals.{Test, ◌gives◌, number, verdict, most, most_columns}
 use Rattle.table.specs.declared.Refusal.{Refusal}
 use Rattle.table.proofs.Answers.{number_some}
 use Rattle.table.proofs.Verdicts.{Numbered, Clear, clear}
-use Rattle.plan.specs.Plan.{capacity}
+use Rattle.plan.specs.Plan.{most_on, capacity}
+use Rattle.plan.proofs.Columns.{few_columns}
 use Rattle.ledger.specs.declared.Session.{Session}
 use Rattle.ledger.specs.Session.{State, record_tests}
 use Rattle.session.specs.Inner.{ready_tests}
@@ -53,14 +54,25 @@ pub ruleset either = (either_holds, neither_holds)
 pub record Sizes (s : Session) : Type 0 where
   pub small : s.plan.n ≤ most
   pub fits : s.plan.k ≤ s.plan.n
+  pub few_columns : s.plan.columns ≤ most_columns
   pub room : s.taken ≤ capacity s.plan
+
+sizes : (s : Session) → ltb most s.plan.n ≡ false → ltb s.plan.n s.plan.k ≡ false → ltb (most_on s.plan.side) s.plan.columns ≡ false
+    → ltb (capacity s.plan) s.taken ≡ false → Sizes s
+sizes s n k c taken =
+    record {
+      small = ltb-false _ _ n;
+      fits = ltb-false _ _ k;
+      few_columns = few_columns s.plan.side s.plan.columns (ltb-false _ _ c);
+      room = ltb-false _ _ taken;
+    }
 
 pub of_record : (s : Session) → 0 ≡ verdict (record_tests s) → Sizes s
 of_record s e =
     let h = clear (record_tests s) tt e in
-    record { small = ltb-false _ _ h.0; fits = ltb-false _ _ h.1.0; room = ltb-false _ _ h.1.1.0 }
+    sizes s h.0 h.1.0 h.1.1.1.0 h.1.1.1.1.0
 
 pub of_ready : (st : State) → 0 ≡ verdict (ready_tests st) → Sizes st.session
 of_ready st e =
     let h = clear (ready_tests st) tt e in
-    record { small = ltb-false _ _ h.0; fits = ltb-false _ _ h.1.0; room = ltb-false _ _ h.1.1.0 }
+    sizes st.session h.0 h.1.0 h.1.1.1.0 h.1.1.1.1.0

@@ -28,9 +28,9 @@ base_at table y = base (get_or table y 0)
 unfoldable pub fold_work : List ℕ → List ℕ → Element → List ℕ → List ℕ → List ℕ
 fold_work table point scale work out = leaves (fold_answer table point scale work out) (both_tables point scale) work
 
--- the plan of a fold: the table's variables, and as many coordinates as the point has
+-- the plan of a fold: the table's variables, as many coordinates as the point has, and one column
 abbrev pub fold_plan : Side → Weight → List ℕ → List ℕ → Element → Plan
-fold_plan side weight table point scale = plan_of (variables (length table)) (entries point) side weight scale point
+fold_plan side weight table point scale = plan_of (variables (length table)) (entries point) 1 side weight scale point
 
 -- the fold, place by place, on the prefix or the suffix side, by plain or shifted weights
 abbrev pub folded : Side → Weight → List ℕ → List ℕ → Element → List ℕ

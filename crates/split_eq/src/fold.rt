@@ -113,6 +113,7 @@ fn compress(
     let plan = Plan {
         n: table::variables(table.len()),
         k: point.len() / 4,
+        columns: 1,
         side: kind.side,
         weight: kind.weight,
         scale,

@@ -8,7 +8,7 @@ use Rattle.std.specs.Prelude.{Result, Ok, Err}
 use Rattle.field.specs.declared.Element.{Element}
 use Rattle.table.specs.Refusals.{number, answer, Outcome, outcome, leaves}
 use Rattle.table.specs.declared.Refusal.{Refusal}
-use Rattle.table.specs.declared.Refusal.TheVariants.{Split, NotPower, TooMany, Lengths, Unreduced, Constant, NoVertex, TooLong, Missing, Closed, Broken, NotFrame, Coordinates, NoPlace}
+use Rattle.table.specs.declared.Refusal.TheVariants.{Split, NotPower, TooMany, Lengths, Unreduced, Constant, NoVertex, TooLong, Missing, Closed, Broken, NotFrame, Coordinates, NoPlace, Columns}
 
 -- the refusal of a number
 refusals : List Refusal
@@ -28,6 +28,7 @@ refusals =
     ∷ NotFrame
     ∷ Coordinates
     ∷ NoPlace
+    ∷ Columns
     ∷ []
 
 found : (r : Refusal) → get_or refusals (number r) Split ≡ r
@@ -46,6 +47,7 @@ found Broken = refl
 found NotFrame = refl
 found Coordinates = refl
 found NoPlace = refl
+found Columns = refl
 
 pub number_one : (r s : Refusal) → number r ≡ number s → r ≡ s
 number_one r s e = sym (found r) ∙ ap (λ n. get_or refusals n Split) e ∙ found s
@@ -66,6 +68,7 @@ number_some Broken e = omega arith
 number_some NotFrame e = omega arith
 number_some Coordinates e = omega arith
 number_some NoPlace e = omega arith
+number_some Columns e = omega arith
 
 -- answers of one number are one answer
 pub answer_one : (a b : Result Unit Refusal) → answer a ≡ answer b → a ≡ b

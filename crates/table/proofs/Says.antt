@@ -14,7 +14,7 @@ use lib.Dec.{eqb}
 use lib.ListN.{length}
 use borrow.Author.Tests.{ltb-false, leb-false}
 use Rattle.table.specs.Table.{entries}
-use Rattle.table.specs.Refusals.{Test, verdict, splits, rows_differ, not_power, variables}
+use Rattle.table.specs.Refusals.{Test, verdict, splits, miscounts, rows_differ, not_power, variables}
 use Rattle.table.proofs.Powers.{power_of}
 use Rattle.table.proofs.Tests.{whole, same}
 use Rattle.table.proofs.Verdicts.{Numbered, Clear, clear}
@@ -23,9 +23,12 @@ use Rattle.table.proofs.Verdicts.{Numbered, Clear, clear}
 pub accepted : (ts : List Test) → Numbered ts → 0 ≡ verdict ts → Clear ts
 accepted ts n h = clear ts n h
 
--- 1 and 4 do not hold: out has a row for each vertex of k coordinates
+-- 1 and 4 do not hold: out has n elements, or a row for each vertex of k coordinates
+pub counted : (out : List ℕ) (n : ℕ) → splits out ≡ false → miscounts out n ≡ false → length out ≡ 4 * n
+counted out n a b = omega (arith, whole out a, same (entries out) n b)
+
 pub room : (out : List ℕ) (k : ℕ) → splits out ≡ false → rows_differ out k ≡ false → length out ≡ 4 * 2 ^ k
-room out k a b = omega (arith, whole out a, same (entries out) (2 ^ k) b)
+room out k a b = counted out (2 ^ k) a b
 
 -- words are n elements, or have them at the front
 pub holds_all : (ws : List ℕ) (n : ℕ) → splits ws ≡ false → not (eqb (entries ws) n) ≡ false → 4 * n ≤ length ws

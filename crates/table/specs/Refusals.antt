@@ -1,11 +1,11 @@
 -- Answers in numbers, and refused calls (document 01, "Refused calls, by operation"). Assumes nothing.
-use Rattle.std.specs.Prelude.{ℕ, zero, suc, ◌^◌, ◌%◌, Bool, not, cond, List, [], ◌∷◌, eqb, ltb, length, Result, Ok, Err}
+use Rattle.std.specs.Prelude.{ℕ, zero, suc, ◌*◌, ◌^◌, ◌%◌, Bool, not, cond, List, [], ◌∷◌, eqb, ltb, length, Result, Ok, Err}
 use Rattle.std.specs.Int.Count.{ones, count_trailing_zeros}
 use Rattle.algebra.specs.Words.{words_of}
 use Rattle.field.specs.Field.{Ext}
 use Rattle.field.specs.declared.Element.{Element}
 use Rattle.table.specs.declared.Refusal.{Refusal}
-use Rattle.table.specs.declared.Refusal.TheVariants.{Split, NotPower, TooMany, Lengths, Unreduced, Constant, NoVertex, TooLong, Missing, Closed, Broken, NotFrame, Coordinates, NoPlace}
+use Rattle.table.specs.declared.Refusal.TheVariants.{Split, NotPower, TooMany, Lengths, Unreduced, Constant, NoVertex, TooLong, Missing, Closed, Broken, NotFrame, Coordinates, NoPlace, Columns}
 use Rattle.table.specs.Table.{entries}
 
 -- this paper's number of a refusal
@@ -24,6 +24,7 @@ number Broken = 11
 number NotFrame = 12
 number Coordinates = 13
 number NoPlace = 14
+number Columns = 15
 
 -- the number of an answer: 0, or the refusal's
 abbrev pub answer : {A : Type 0} → Result A Refusal → ℕ
@@ -78,13 +79,25 @@ most = 20
 abbrev pub too_many : List ℕ → Bool
 too_many ws = ltb most (entries ws)
 
+-- 15: over 16 columns
+abbrev pub most_columns : ℕ
+most_columns = 16
+
+-- the words of the largest table
+abbrev pub largest : ℕ
+largest = most_columns * 2 ^ most
+
 -- 1: element words not a multiple of 4
 abbrev pub splits : List ℕ → Bool
 splits ws = not (eqb (length ws % 4) 0)
 
+-- 4: the elements are not n
+abbrev pub miscounts : List ℕ → ℕ → Bool
+miscounts ws n = not (eqb (entries ws) n)
+
 -- 4: the elements of out are not a row for each vertex of k coordinates
 abbrev pub rows_differ : List ℕ → ℕ → Bool
-rows_differ out k = not (eqb (entries out) (2 ^ k))
+rows_differ out k = miscounts out (2 ^ k)
 
 -- 2: entries of a table not a power of two, 0 included: the count of ones is not one
 abbrev pub not_power : ℕ → Bool

@@ -8,7 +8,7 @@ ghost use Rattle.std.specs.Prelude.{◌≡◌, false, true, not, MatchResult, �
 ghost use Rattle.algebra.specs.Words.{unreduced};
 ghost use Rattle.field.specs.Field.{p, Holds};
 ghost use Rattle.table.specs.Table.{get_at, put_at, element_at, entries};
-ghost use Rattle.table.specs.Refusals.{number, answer, verdict, splits, too_many, rows_differ, most, not_power, variables, too_many_variables};
+ghost use Rattle.table.specs.Refusals.{number, answer, verdict, splits, too_many, miscounts, rows_differ, most, not_power, variables, too_many_variables};
 ghost use Rattle.table.specs.Inner.{entry_tests};
 
 use field::Element;
@@ -17,6 +17,9 @@ use std::fmt;
 
 // The most variables of a table, and coordinates of a point.
 pub const MOST: usize = 20;
+
+// The most columns of a table.
+pub const MOST_COLUMNS: usize = 16;
 
 // What a call is refused for.
 #[derive(Clone, Copy, Debug, PartialEq, Eq)]
@@ -35,6 +38,7 @@ pub enum Refusal {
     NotFrame = 12,
     Coordinates = 13,
     NoPlace = 14,
+    Columns = 15,
 }
 
 impl Refusal {
@@ -100,6 +104,13 @@ pub fn lengths_differ(a: &[u32], b: &[u32]) -> bool
     ensures { result ≡ not (eqb (entries a.now) (entries b.now)) }
 {
     a.len() / 4 != b.len() / 4
+}
+
+// 4: the elements are not n.
+pub fn miscounts(ws: &[u32], n: usize) -> bool
+    ensures { result ≡ miscounts ws.now n }
+{
+    ws.len() / 4 != n
 }
 
 // 4: out has not a row for each vertex of k coordinates. No slice has as many as 2^62 elements.

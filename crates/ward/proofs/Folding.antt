@@ -1,5 +1,5 @@
 -- What an accepted shifted fold takes and leaves. Assumes nothing.
-use mathlib.Core.Path.{◌≡◌, ◌∙◌}
+use mathlib.Core.Path.{◌≡◌, refl, sym, ap, ◌∙◌}
 use mathlib.Core.Bool.{false}
 use Prim.Native.Nat.{ℕ, ◌+◌, ◌-◌, ◌*◌, ◌/◌, ◌%◌, ◌^◌, ◌≤◌, ◌<◌}
 use native.Mathlib.Omega.{arith}
@@ -24,6 +24,7 @@ use Rattle.work.specs.Work.{first, others, work_words}
 use Rattle.split_eq.specs.Split.{both_tables, folded}
 use Rattle.plan.specs.declared.Plan.{Plan}
 use Rattle.plan.specs.Plan.{plan_of, fold_of}
+use Rattle.plan.proofs.OneColumn.{one_table, one_sound}
 use Rattle.byte_fold.specs.Takes.{FillsBytes}
 use Rattle.byte_points.specs.Few.{Few}
 use Rattle.byte_points.proofs.Sizes.{whole_words, few, sized}
@@ -78,7 +79,7 @@ module _ {fold : Fold} {work out : List ℕ} (t : Tested fold work out) {n' : �
 
   -- the plan that the code makes
   abbrev planned : Plan
-  planned = plan_of n' k' fold.side Shifted fold.scale ps
+  planned = plan_of n' k' 1 fold.side Shifted fold.scale ps
 
   pub folds : length table < 2 ^ 64 → FillsBytes planned table out
   folds fits =
@@ -93,14 +94,10 @@ module _ {fold : Fold} {work out : List ℕ} (t : Tested fold work out) {n' : �
       in
       rw (en, ep, ← words_length point, ← words_length table)
       (record {
-        sound = record {
-          small = t.small;
-          fits = t.fits;
-          scale_is = t.scale_is;
-          coordinates_below = unreduced_append p (words point) zeros t.point_is.below
-              (unreduced_zeros p p_pos (4 * most - length (words point)));
-        };
-        count = size;
+        sound = one_sound (plan_of (n fold) (k fold) 1 fold.side Shifted fold.scale (words point)) refl t.small t.fits t.scale_is
+            (unreduced_append p (words point) zeros t.point_is.below (unreduced_zeros p p_pos (4 * most - length (words point))));
+        one_column = refl;
+        count = size ∙ ap (λ m. 4 * m) (sym (one_table (plan_of (n fold) (k fold) 1 fold.side Shifted fold.scale (words point)) refl));
         below = t.below;
         room = t.out_room;
       })

@@ -100,6 +100,7 @@ impl<'a> Fold<'a> {
         let plan = Plan {
             n,
             k,
+            columns: 1,
             side: self.side,
             weight: Weight::Shifted,
             scale: self.scale,

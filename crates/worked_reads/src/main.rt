@@ -70,7 +70,7 @@ fn arriving(rt: &impl Print) -> io::Result<()> {
 
 fn opened(n: usize, weight: Weight, point: &[u32], out: &mut [u32]) -> Session {
     let one = Element::one();
-    session::open(n, Side::Prefix, weight, one, point, out).unwrap_or(session::no_session())
+    session::open(n, 1, Side::Prefix, weight, one, point, out).unwrap_or(session::no_session())
 }
 
 fn seen(rt: &impl Print, call: &str, s: Session, place: usize, out: &[u32]) -> io::Result<()> {

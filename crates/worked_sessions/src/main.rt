@@ -66,8 +66,8 @@ fn opened<'a>(
     again: &'a mut [u32],
 ) -> io::Result<Both<'a>> {
     let one = Element::one();
-    let plain = session::open(2, Side::Prefix, Weight::Next, one, &POINT, out);
-    let lent = session::open(2, Side::Prefix, Weight::Next, one, &POINT, again);
+    let plain = session::open(2, 1, Side::Prefix, Weight::Next, one, &POINT, out);
+    let lent = session::open(2, 1, Side::Prefix, Weight::Next, one, &POINT, again);
     told(rt, call, plain, lent)?;
     Ok(Both {
         plain: plain.unwrap_or(session::no_session()),

@@ -5,10 +5,10 @@ use Rattle.frames.proofs.Keeping.{used_fits, hands_last}
 use Rattle.frames.proofs.close.Goals as goal
 
 pub slice_bounds-pad-end : goal.slice_bounds-pad-end
-slice_bounds-pad-end c = omega (arith, c.places-used.ensures, used_fits c.requires.ready)
+slice_bounds-pad-end c = omega (arith, c.width-used.ensures, used_fits c.requires.ready)
 
 pub slice_bounds-pad-end-2 : goal.slice_bounds-pad-end-2
-slice_bounds-pad-end-2 c = sym (length-take-le _ _ (omega (arith, c.places-used.ensures, used_fits c.requires.ready)))
+slice_bounds-pad-end-2 c = sym (length-take-le _ _ (omega (arith, c.width-used.ensures, used_fits c.requires.ready)))
 
 pub pad-requires : goal.pad-requires
-pad-requires c = rw c.places-used.ensures (hands_last _ _ c.requires.ready c.requires.last_ready)
+pad-requires c = rw c.width-used.ensures (hands_last _ _ c.requires.ready c.requires.last_ready)

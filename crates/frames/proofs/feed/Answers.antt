@@ -5,13 +5,13 @@ use Rattle.frames.proofs.Keeping.{used_fits, hands, hands_keeps}
 use Rattle.frames.proofs.feed.Goals as goal
 
 pub slice_bounds-add-end : goal.slice_bounds-add-end
-slice_bounds-add-end c = omega (arith, c.places-used.ensures, used_fits c.requires.takes.ready)
+slice_bounds-add-end c = omega (arith, c.width-used.ensures, used_fits c.requires.takes.ready)
 
 pub slice_bounds-add-end-2 : goal.slice_bounds-add-end-2
-slice_bounds-add-end-2 c = sym (length-take-le _ _ (omega (arith, c.places-used.ensures, used_fits c.requires.takes.ready)))
+slice_bounds-add-end-2 c = sym (length-take-le _ _ (omega (arith, c.width-used.ensures, used_fits c.requires.takes.ready)))
 
 pub add-requires : goal.add-requires
-add-requires c = rw c.places-used.ensures (hands c.requires.takes)
+add-requires c = rw c.width-used.ensures (hands c.requires.takes)
 
 pub keep-requires : goal.keep-requires
 keep-requires c = hands_keeps _ _ c.requires.takes.ready c.requires.last_ready

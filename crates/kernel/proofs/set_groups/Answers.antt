@@ -9,7 +9,7 @@ pub lowered-requires : goal.lowered-requires
 lowered-requires g c = (
   omega (arith, c.requires.reduced.few),
   (
-    raised_weights c.requires.reduced.few (omega arith) c.raised-raised.ensures,
+    raised_weights c.requires.reduced.few (omega arith) c.raised_apart-raised.ensures,
     place_there _ c.requires.groups.0 c.loop-i-test.true (omega arith),
   ),
 )
@@ -26,4 +26,4 @@ pub returns : goal.returns
 returns g c =
     let q : c.loop-i.i ≡ entries c.args.out.now = omega arith in
     finish _ _ (rw q at c.loop-i.invariant.1) c.requires.groups.1
-    ∙ ap (table_words _) (λ j i. lowered_again _ _ _ (λ t. get_or c.args.words.now (g.row.N * i + t) 0) c.raised-raised.ensures j)
+    ∙ ap (table_words _) (λ j i. lowered_again _ _ _ (λ t. get_or c.args.words.now (g.row.N * i + t) 0) c.raised_apart-raised.ensures j)

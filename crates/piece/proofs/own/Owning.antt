@@ -16,6 +16,7 @@ use Rattle.multilinear.specs.Folds.{word_of}
 use Rattle.multilinear.specs.Inner.{own_row, own_weight, own_at}
 use Rattle.field.specs.Field.{Ext, field, base, from_words}
 use Rattle.field.proofs.Laws.{field_ring}
+use Rattle.table.specs.Refusals.{largest}
 use Rattle.table.specs.Gained.{Gained}
 use Rattle.table.proofs.Gaining.{nothing, gained_as}
 use Rattle.table.proofs.Laws.{elements_length}
@@ -66,7 +67,7 @@ module _ (piece : Piece) where
     pub row_there : Apart row rows inner
     row_there = record { there = h; small = rw r piece.fits.small }
 
-    rows_small : rows * inner ≤ 2 ^ 20
+    rows_small : rows * inner ≤ largest
     rows_small = rw r piece.fits.small
 
     pub stands : (side : Side) → Stands (apart side row rows inner) inner

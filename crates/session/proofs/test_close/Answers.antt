@@ -23,7 +23,9 @@ returns-in_err-test_ready c =
     grind (arith, refused (ready_tests st) (later st) _ c.in_err-test_ready.ensures)
 
 pub words-requires : goal.words-requires
-words-requires c = (of_ready (state c.args.s.now c.args.out.now) c.in_ok-test_ready.ensures).small
+words-requires c =
+    let h = of_ready (state c.args.s.now c.args.out.now) c.in_ok-test_ready.ensures in
+    (h.small, h.few_columns)
 
 pub returns : goal.returns
 returns c = grind (arith, tests, whole (state c.args.s.now c.args.out.now) c.in_ok-test_ready.ensures)

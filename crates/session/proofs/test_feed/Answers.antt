@@ -26,7 +26,9 @@ returns-in_err-test_ready c =
     grind (arith, refused (ready_tests st) (later st c.args.piece.now) _ c.in_err-test_ready.ensures)
 
 pub words-requires : goal.words-requires
-words-requires c = (of_ready (state c.args.s.now c.args.out.now) c.in_ok-test_ready.ensures).small
+words-requires c =
+    let h = of_ready (state c.args.s.now c.args.out.now) c.in_ok-test_ready.ensures in
+    (h.small, h.few_columns)
 
 pub overflow_sub-left : goal.overflow_sub-left
 overflow_sub-left c = omega (arith, c.words.ensures, (of_ready (state c.args.s.now c.args.out.now) c.in_ok-test_ready.ensures).room)

@@ -23,7 +23,7 @@ pub returns-in_err-refuse_if : goal.returns-in_err-refuse_if
 returns-in_err-refuse_if c = grind (arith, tests, whole c.args.s.now c.args.out.now c.in_ok-test_record.ensures)
 
 pub test_out-requires : goal.test_out-requires
-test_out-requires c = (of_record c.args.s.now c.in_ok-test_record.ensures).fits
+test_out-requires c = let h = of_record c.args.s.now c.in_ok-test_record.ensures in (h.fits, h.small, h.few_columns)
 
 pub returns : goal.returns
 returns c =

@@ -114,9 +114,10 @@ fn frames(frames: &Frames) -> (Option<u64>, Option<u64>) {
     let text = annotated.map(|output| String::from_utf8_lossy(&output.stdout).into_owned());
     let text = text.unwrap_or_default();
     let all = text.lines().find(|line| line.contains("PROGRAM TOTALS"));
-    // `piece`, and `moved` and `scatter` below it, are the fold beneath the
-    // session's tests. Calls of a function within its own are marked '2.
-    let names = [":piece::", ":moved::", ":scatter::"];
+    // `piece`, and `moved`, `short_rows` and `scatter` below it, are the fold
+    // beneath the session's tests. Calls of a function within its own are
+    // marked '2.
+    let names = [":piece::", ":moved::", ":short_rows::", ":scatter::"];
     let folds = |line: &&str| names.iter().any(|name| line.contains(name));
     let calls = text.lines().filter(folds);
     let calls = calls.filter(|line| !line.contains("'2"));

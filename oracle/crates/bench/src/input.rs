@@ -11,6 +11,9 @@ use p3_multilinear_util::poly::{Poly, PolyView};
 /// The most variables of a table.
 pub const MOST: usize = 20;
 
+/// The most columns of a session.
+pub const MOST_COLUMNS: usize = 16;
+
 /// The most points of a batch.
 pub const MOST_POINTS: usize = 64;
 
@@ -33,6 +36,8 @@ pub struct Input {
     /// every other call.
     coordinates: Vec<u32>,
     entries: LazyCell<Vec<u32>>,
+    /// A table of the most variables with the most columns.
+    wide: LazyCell<Vec<u32>>,
 }
 
 impl Input {
@@ -44,6 +49,7 @@ impl Input {
             base,
             coordinates: below_p(2, 4 * MOST * MOST_POINTS),
             entries: LazyCell::new(|| below_p(3, 4 << MOST)),
+            wide: LazyCell::new(|| below_p(4, MOST_COLUMNS << MOST)),
         }
     }
 
@@ -60,6 +66,11 @@ impl Input {
     /// A table of 2^n elements.
     pub fn entries(&self, n: usize) -> &[u32] {
         &self.entries[..4 << n]
+    }
+
+    /// A table of 2^n base words in each of so many columns.
+    pub fn wide(&self, n: usize, columns: usize) -> &[u32] {
+        &self.wide[..columns << n]
     }
 
     /// k coordinates, or k of each of several points.

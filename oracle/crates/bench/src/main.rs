@@ -12,6 +12,7 @@
 mod aims;
 mod bench;
 mod clock;
+mod columns;
 mod counts;
 mod document;
 mod feeds;
@@ -33,7 +34,7 @@ mod wards;
 use std::path::PathBuf;
 use std::{env, fs, process};
 
-use bench::{Bench, Once};
+use bench::{Bench, Once, Row};
 use input::Input;
 
 const BUFFERS: &str = "\
@@ -48,6 +49,11 @@ fn how(runs: usize) -> String {
     format!("Least of {fewest} to {runs} runs, as many as fit into {budget} s.\n\n{BUFFERS}")
 }
 
+/// Both tables of times, and how they were taken.
+fn times(rows: &[Row], runs: usize) -> String {
+    [report::times(rows), columns::text(rows), how(runs)].join("\n")
+}
+
 fn main() {
     let (mut bench, writes) = arguments();
     let input = Input::new();
@@ -55,6 +61,7 @@ fn main() {
     values::run(&mut bench, &input);
     folds::run(&mut bench, &input);
     sessions::run(&mut bench, &input);
+    columns::run(&mut bench, &input);
     wards::run(&mut bench, &input);
     frames::run(&mut bench, &input);
     if bench.once.is_some() {
@@ -66,7 +73,7 @@ fn main() {
     let counts = counts::run(&input);
     let parts = [
         ("machine", document::machine()),
-        ("times", report::times(rows) + "\n" + &how(bench.runs)),
+        ("times", times(rows, bench.runs)),
         ("counts", counts.text),
         ("growth", growth::text(&grown)),
         ("feeds", feeds::text(rows)),

@@ -3,7 +3,7 @@
 use std::io::{IsTerminal, stderr};
 
 use crate::bench::Row;
-use crate::side::Who::{Ours, Rust};
+use crate::side::Who::{Apart, Ours, Rust};
 
 /// A head and lines; the first column to the left, the others to the right.
 pub fn table(head: &[&str], lines: &[Vec<String>]) -> String {
@@ -33,7 +33,7 @@ pub fn table(head: &[&str], lines: &[Vec<String>]) -> String {
     text
 }
 
-/// The times of every row.
+/// The times of every row but those of columns, which have a table of their own.
 pub fn times(rows: &[Row]) -> String {
     let head = [
         "operation",
@@ -45,7 +45,8 @@ pub fn times(rows: &[Row]) -> String {
         "beside ours",
         "ours/that",
     ];
-    let lines: Vec<_> = rows.iter().map(line).collect();
+    let others = rows.iter().filter(|row| row.time(Apart).is_none());
+    let lines: Vec<_> = others.map(line).collect();
     table(&head, &lines)
 }
 

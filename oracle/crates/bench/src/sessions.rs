@@ -39,7 +39,7 @@ pub fn run(bench: &mut Bench, input: &Input) {
             for piece in [16, 1024, 1 << n] {
                 let size = format!("k = {k}, {}", pieces(piece));
                 bench.case(name, n, size, || {
-                    let whole = Session { input, n, k };
+                    let whole = Session::new(input, n, k);
                     whole.sides(side, weight, piece, fold)
                 });
             }
@@ -48,19 +48,19 @@ pub fn run(bench: &mut Bench, input: &Input) {
     for (n, k) in FED {
         for count in [0, 16] {
             bench.case(FEED, n, one_feed(k, count), || {
-                vec![Session { input, n, k }.feed(count)]
+                vec![Session::new(input, n, k).feed(count)]
             });
         }
     }
     for (n, k) in FED {
         bench.case(READ, n, one_read(k), || {
-            vec![Session { input, n, k }.read()]
+            vec![Session::new(input, n, k).read()]
         });
     }
     // Of a feed without words the test of out is what takes time.
     let k = 2;
     bench.case("test of 2^20 words", n, String::new(), || {
-        vec![Session { input, n, k }.feed(0), check(4 << (n - k))]
+        vec![Session::new(input, n, k).feed(0), check(4 << (n - k))]
     });
 }
 
@@ -91,49 +91,87 @@ fn pieces(words: usize) -> String {
     }
 }
 
-struct Session<'a> {
+pub struct Session<'a> {
     input: &'a Input,
     n: usize,
     k: usize,
+    columns: usize,
 }
 
 impl<'a> Session<'a> {
+    /// Of one column.
+    pub fn new(input: &'a Input, n: usize, k: usize) -> Self {
+        Self {
+            input,
+            n,
+            k,
+            columns: 1,
+        }
+    }
+
+    /// The same of so many columns.
+    pub fn of(self, columns: usize) -> Self {
+        Self { columns, ..self }
+    }
+
     fn sides(self, side: u32, weight: u32, piece: usize, fold: Option<Fold>) -> Vec<Side<'a>> {
-        let Self { input, n, k } = self;
+        let Self { input, n, k, .. } = self;
         let fold = fold.map(|fold| our_fold(Who::Fold, input, n, k, fold));
         let mut sides = vec![self.fed(side, weight, piece)];
         sides.extend(fold);
         sides
     }
 
-    fn places(&self) -> usize {
-        4 << (self.n - self.k)
+    /// The words of out.
+    pub fn out_words(&self) -> usize {
+        (4 * self.columns) << (self.n - self.k)
     }
 
     fn open(&self, side: u32, weight: u32, out: &mut [u32]) -> Words {
         let (mut head, mut kept) = ([0; HEAD], [0; COORDINATES]);
-        let (point, n) = (self.input.coordinates(self.k), self.n as u64);
-        let answer = host::session_open(point, SCALE, n, side, weight, out, &mut head, &mut kept);
+        let (n, columns) = (self.n as u64, self.columns as u64);
+        let answer = host::session_open(
+            self.input.coordinates(self.k),
+            SCALE,
+            n,
+            columns,
+            side,
+            weight,
+            out,
+            &mut head,
+            &mut kept,
+        );
         assert_eq!(answer, 0);
         (head, kept)
     }
 
-    /// From open to close, the table in pieces of this many words.
+    /// From open to close, the table in these pieces; the answer of close.
+    pub fn pass<'b>(
+        &self,
+        side: u32,
+        weight: u32,
+        pieces: impl Iterator<Item = &'b [u32]>,
+        out: &mut [u32],
+    ) -> u32 {
+        let (mut head, mut kept) = self.open(side, weight, out);
+        for piece in pieces {
+            assert_eq!(host::session_feed(piece, out, &mut head, &mut kept), 0);
+        }
+        host::session_close(out, &mut head, &mut kept)
+    }
+
+    /// The table in pieces of this many words.
     fn fed(self, side: u32, weight: u32, piece: usize) -> Side<'a> {
         let words = self.input.words(self.n);
-        Side::lent(Ours, self.places(), move |out| {
-            let (mut head, mut kept) = self.open(side, weight, out);
-            for piece in words.chunks(piece) {
-                assert_eq!(host::session_feed(piece, out, &mut head, &mut kept), 0);
-            }
-            host::session_close(out, &mut head, &mut kept)
+        Side::lent(Ours, self.out_words(), move |out| {
+            self.pass(side, weight, words.chunks(piece), out)
         })
     }
 
     /// One feed, always of the table's first words.
     fn feed(self, count: usize) -> Side<'a> {
         let piece = &self.input.words(self.n)[..count];
-        let mut out = vec![0; self.places()];
+        let mut out = vec![0; self.out_words()];
         let session = self.open(0, 0, &mut out);
         Side::new(Ours, move |clock| {
             let answer = clock.each(|| {
@@ -146,7 +184,7 @@ impl<'a> Session<'a> {
 
     /// One read of the last place.
     fn read(self) -> Side<'a> {
-        let mut out = vec![0; self.places()];
+        let mut out = vec![0; self.out_words()];
         let (mut head, mut kept) = self.open(0, 0, &mut out);
         let place = (1 << (self.n - self.k)) - 1;
         let mut element = [0; 4];

@@ -15,6 +15,8 @@ pub enum Who {
     Fold,
     /// Our fold on words, beside that on bytes.
     Words,
+    /// Our sessions of each column alone, beside one of all columns.
+    Apart,
     /// A process that reads nothing, beside one that reads frames.
     Start,
 }
@@ -27,6 +29,7 @@ impl Who {
             Self::C => "C",
             Self::Fold => "fold",
             Self::Words => "words",
+            Self::Apart => "apart",
             Self::Start => "start",
         }
     }

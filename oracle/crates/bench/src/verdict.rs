@@ -6,7 +6,7 @@ use crate::aims::{
 };
 use crate::bench::{Row, key};
 use crate::report::{percent, seconds, table};
-use crate::side::Who::{self, C, Fold, Ours, Rust};
+use crate::side::Who::{self, Apart, C, Fold, Ours, Rust};
 
 /// The aims; `parts` are the fold's of foldframes.
 pub fn aims(rows: &[Row], parts: &[f64]) -> String {
@@ -70,6 +70,7 @@ fn side(who: Who) -> &'static str {
         Rust => "the Rust",
         C => "C",
         Fold => "the fold",
+        Apart => "its columns apart",
         _ => who.name(),
     }
 }

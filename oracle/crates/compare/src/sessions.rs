@@ -1,18 +1,18 @@
 //! The fold session: tables fed in pieces, with reads and refused calls among
 //! them.
 
-use calls::{Outcome, Random, expect};
+use calls::{Outcome, Random, entries, expect};
 
 use crate::changes::{OPEN, OPENED};
 use crate::met::Met;
 use crate::run::Input::{Number, Words};
 use crate::run::{Input, Run, call};
 use crate::step::Kind::{Close, Feed, Open, Read};
-use crate::step::{Kind, NO_SESSION, Step, WORDS};
+use crate::step::{Kind, MOST_COLUMNS, NO_SESSION, Step, WORDS, wide};
 
 /// Each call's refusals in their order.
 const REFUSALS: [(Kind, &[u32]); 4] = [
-    (Open, &[1, 3, 4, 5]),
+    (Open, &[1, 3, 15, 4, 5]),
     (Feed, &[11, 10, 4, 5, 8]),
     (Close, &[11, 10, 4, 5, 9]),
     (Read, &[11, 4, 5, 14]),
@@ -20,6 +20,25 @@ const REFUSALS: [(Kind, &[u32]); 4] = [
 
 /// A session closed with words missing is broken: none meets 10 before 9.
 const EXCLUSIVE: [(u32, u32); 1] = [(10, 9)];
+
+/// The columns of sessions on the prefix side.
+const COLUMNS: [u64; 5] = [1, 2, 3, 4, MOST_COLUMNS];
+
+/// More words than a table has: it is fed as one piece.
+const WHOLE: usize = usize::MAX;
+
+/// The most places of which each is read once a session is closed.
+const FEW: u64 = 64;
+
+/// How a session is opened.
+#[derive(Clone, Copy)]
+struct Opened {
+    n: usize,
+    k: usize,
+    columns: u64,
+    side: u32,
+    weight: u32,
+}
 
 struct Sessions<'a> {
     run: &'a mut Run,
@@ -41,11 +60,14 @@ pub fn compare(run: &mut Run) {
         }
         for side in [0, 1] {
             for weight in 0..sessions.run.count(1, 3) as u32 {
-                sessions.session((20, 10), side, 2 - weight, Some(4_096));
+                let weight = 2 - weight;
+                sessions.session(Opened::new(20, 10, 1, side, weight), Some(4_096));
             }
         }
         // The most coordinates: none is unused.
-        sessions.session((20, 20), 0, 2, Some(1 << 19));
+        sessions.session(Opened::new(20, 20, 1, 0, 2), Some(1 << 19));
+        // The most words.
+        sessions.session(Opened::new(20, 10, MOST_COLUMNS, 0, 2), Some(1 << 23));
         for (kind, refusals) in REFUSALS {
             sessions.met.demand((kind, true), refusals, &EXCLUSIVE);
             sessions.met.demand((kind, false), &[NO_SESSION], &[]);
@@ -53,42 +75,92 @@ pub fn compare(run: &mut Run) {
     });
 }
 
+impl Opened {
+    fn new(n: usize, k: usize, columns: u64, side: u32, weight: u32) -> Self {
+        Self {
+            n,
+            k,
+            columns,
+            side,
+            weight,
+        }
+    }
+
+    /// The words of its table.
+    fn words(&self) -> usize {
+        wide(self.n as u64, self.columns).unwrap() as usize
+    }
+
+    /// The words of a row, which are the elements of out.
+    fn row(&self) -> usize {
+        self.words() >> self.k
+    }
+
+    /// The call of open.
+    fn step(&self, random: &mut Random) -> Step {
+        Step {
+            kind: Open,
+            n: self.n as u64,
+            columns: self.columns,
+            side: self.side,
+            weight: self.weight,
+            scale: random.elements(4),
+            point: random.elements(4 * self.k),
+            piece: vec![],
+            place: 0,
+            words: random.stale(WORDS),
+            out: random.stale(4 * self.row()),
+            element: random.stale(4),
+        }
+    }
+
+    /// The length of a piece: none, one, sixteen, past the edge of a row or of a
+    /// suffix place, as many as a row has places, within the columns of a place, or
+    /// any.
+    fn piece(&self, random: &mut Random, left: usize) -> usize {
+        match random.below(10) {
+            0 => 0,
+            1 | 2 => 1,
+            3 => 16,
+            4 => (1 << self.k) + 1,
+            5 => self.row() + 1,
+            6 => 1 << (self.n - self.k),
+            7 => 1 + random.below(self.columns as u32) as usize,
+            _ => random.below(left as u32 + 1) as usize,
+        }
+    }
+}
+
 impl Sessions<'_> {
-    /// Sessions of each side and weight, fed in several ways.
+    /// Sessions of each side and weight, fed in several ways; each way with each
+    /// count of columns by turns.
     fn all(&mut self, n: usize, k: usize, count: usize) {
-        for choice in 0..6 * count as u32 {
-            let (side, weight) = (choice % 2, choice / 2 % 3);
-            for length in [None, None, None, Some(16), Some(1 << n)] {
-                self.session((n, k), side, weight, length);
+        for choice in 0..6 * count {
+            let (side, weight) = (choice as u32 % 2, choice as u32 / 2 % 3);
+            let lengths = [None, None, None, Some(16), Some(WHOLE)];
+            for (way, length) in lengths.into_iter().enumerate() {
+                let columns = match side {
+                    0 => COLUMNS[(n + k + choice / 2 + way) % COLUMNS.len()],
+                    _ => 1,
+                };
+                self.session(Opened::new(n, k, columns, side, weight), length);
             }
         }
     }
 
     /// One session from open to close, its table fed in pieces of this length
     /// or else of random lengths.
-    fn session(&mut self, (n, k): (usize, usize), side: u32, weight: u32, length: Option<usize>) {
+    fn session(&mut self, opened: Opened, length: Option<usize>) {
         let random = &mut self.run.random;
-        let table = random.words(1 << n);
-        let mut step = Step {
-            kind: Open,
-            n: n as u64,
-            side,
-            weight,
-            scale: random.elements(4),
-            point: random.elements(4 * k),
-            piece: vec![],
-            place: 0,
-            words: random.stale(WORDS),
-            out: random.stale(4 << (n - k)),
-            element: random.stale(4),
-        };
+        let table = random.words(opened.words());
+        let mut step = opened.step(random);
         self.step(&mut step);
         let mut left = &table[..];
         step.kind = Feed;
         while !left.is_empty() {
             self.reads(&step, &table, table.len() - left.len());
             let random = &mut self.run.random;
-            let length = length.unwrap_or_else(|| piece(random, n, k, left.len()));
+            let length = length.unwrap_or_else(|| opened.piece(random, left.len()));
             let (piece, after) = left.split_at(length.min(left.len()));
             (step.piece, left) = (piece.to_vec(), after);
             self.step(&mut step);
@@ -98,10 +170,25 @@ impl Sessions<'_> {
         step.kind = Close;
         self.step(&mut step);
         self.reads(&step, &table, table.len());
+        self.read_each(&step);
         self.whole(&step, &table);
         for kind in [Feed, Close, Read, Feed, Close, Read] {
             step.kind = kind;
             self.damaged(&step);
+        }
+    }
+
+    /// A read of each place, where they are few.
+    fn read_each(&mut self, step: &Step) {
+        let places = entries(&step.out);
+        if places > FEW {
+            return;
+        }
+        let mut step = step.clone();
+        step.kind = Read;
+        for place in 0..places {
+            step.place = place;
+            self.case(&step);
         }
     }
 
@@ -139,16 +226,11 @@ impl Sessions<'_> {
 
         let mut so_far = table.to_vec();
         so_far[taken..].fill(0);
-        let mut folds = step.folded(&so_far);
-        for fold in &mut folds {
-            let [out] = &mut fold.lent;
-            *out = out[4 * step.place as usize..][..4].to_vec();
-        }
         let mut inputs = arguments(&step);
         inputs.push(("place", Number(step.place)));
         inputs.push(("table", Words(table)));
         inputs.push(("words taken", Number(taken as u64)));
-        self.run.same(&inputs, &folds, &got);
+        self.run.same(&inputs, &step.folded_place(&so_far), &got);
     }
 
     /// The call with up to two changes.
@@ -193,24 +275,12 @@ impl Sessions<'_> {
     }
 }
 
-/// The length of a piece: none, one, sixteen, past a row's or a place's edge,
-/// or any.
-fn piece(random: &mut Random, n: usize, k: usize, left: usize) -> usize {
-    match random.below(8) {
-        0 => 0,
-        1 | 2 => 1,
-        3 => 16,
-        4 => (1 << k) + 1,
-        5 => (1 << (n - k)) + 1,
-        _ => random.below(left as u32 + 1) as usize,
-    }
-}
-
 fn arguments(step: &Step) -> Vec<(&str, Input<'_>)> {
     vec![
         ("point", Words(&step.point)),
         ("scale", Words(&step.scale)),
         ("n", Number(step.n)),
+        ("columns", Number(step.columns)),
         ("side", Number(step.side.into())),
         ("weight", Number(step.weight.into())),
     ]

@@ -14,16 +14,20 @@ use Kind::{Close, Feed, Open, Read};
 /// The places among a session's words, and their count: the head, and the coordinates.
 pub const N: usize = 0;
 pub const K: usize = 1;
-pub const SIDE: usize = 2;
-pub const WEIGHT: usize = 3;
-pub const TAKEN: usize = 4;
-pub const CLOSED: usize = 5;
-pub const SCALE: usize = 6;
+pub const COLUMNS: usize = 2;
+pub const SIDE: usize = 3;
+pub const WEIGHT: usize = 4;
+pub const TAKEN: usize = 5;
+pub const CLOSED: usize = 6;
+pub const SCALE: usize = 7;
 pub const POINT: usize = HEAD;
 pub const WORDS: usize = HEAD + COORDINATES;
 
 /// The host library's own answer where numbers are no session's.
 pub const NO_SESSION: u32 = 255;
+
+/// The most columns of a prefix session.
+pub const MOST_COLUMNS: u64 = 16;
 
 #[derive(Clone, Copy, Debug, PartialEq, Eq, PartialOrd, Ord)]
 pub enum Kind {
@@ -38,6 +42,7 @@ pub struct Step {
     pub kind: Kind,
     /// Open's arguments.
     pub n: u64,
+    pub columns: u64,
     pub side: u32,
     pub weight: u32,
     pub scale: Vec<u32>,
@@ -55,12 +60,16 @@ pub struct Step {
 impl Step {
     /// The call through C.
     pub fn ours(&self, words: &mut [u32], out: &mut [u32], element: &mut [u32]) -> u32 {
-        let (n, side, weight) = (self.n, self.side, self.weight);
+        let (n, columns) = (self.n, self.columns);
+        let (side, weight) = (self.side, self.weight);
         let scale = self.scale[..].try_into().unwrap();
         let (head, point) = words.split_at_mut(HEAD);
         let (head, point) = (head.try_into().unwrap(), point.try_into().unwrap());
         match self.kind {
-            Open => host::session_open(&self.point, scale, n, side, weight, out, head, point),
+            Open => {
+                let given = &self.point;
+                host::session_open(given, scale, n, columns, side, weight, out, head, point)
+            }
             Feed => host::session_feed(&self.piece, out, head, point),
             Close => host::session_close(out, head, point),
             Read => {
@@ -70,29 +79,23 @@ impl Step {
         }
     }
 
-    /// Tests in the order of document 01 and of request (a), each with the refusal
-    /// where it holds.
+    /// Tests in the order of document 01 and of requests (a) and (e), each with the
+    /// refusal where it holds.
     pub fn refusals(&self) -> Vec<(bool, u32)> {
         if self.is_no_session() {
             return vec![(true, NO_SESSION)];
         }
-        let (out, piece) = (&self.out[..], &self.piece[..]);
         if self.kind == Open {
-            let (n, k) = (self.n, entries(&self.point));
-            let places = n.checked_sub(k).and_then(rows);
-            return vec![
-                (splits([&self.point, out]), 1),
-                (n > MOST || k > MOST, 3),
-                (places != Some(entries(out)), 4),
-                (unreduced([&self.point, &self.scale]), 5),
-            ];
+            return self.of_open();
         }
-        let [n, k, _, _, taken, closed] = self.numbers();
-        let misfits = splits([out]) || rows(n.saturating_sub(k)) != Some(entries(out));
-        let passes = |more| rows(n).is_some_and(|rows| taken + more > rows);
-        let missing = rows(n).is_none_or(|rows| taken < rows);
+        let (out, piece) = (&self.out[..], &self.piece[..]);
+        let [n, k, columns, _, _, taken, closed] = self.numbers();
+        let (table, places) = (wide(n, columns), wide(n.saturating_sub(k), columns));
+        let misfits = splits([out]) || places != Some(entries(out));
+        let passes = |more| table.is_some_and(|words| taken + more > words);
+        let missing = table.is_none_or(|words| taken < words);
         if self.kind == Read {
-            let beyond = rows(n.saturating_sub(k)).is_some_and(|places| self.place >= places);
+            let beyond = places.is_some_and(|places| self.place >= places);
             return vec![
                 (self.broken(), 11),
                 (misfits, 4),
@@ -113,6 +116,18 @@ impl Step {
         ]
     }
 
+    fn of_open(&self) -> Vec<(bool, u32)> {
+        let (n, k) = (self.n, entries(&self.point));
+        let places = n.checked_sub(k).and_then(|left| wide(left, self.columns));
+        vec![
+            (splits([&self.point, &self.out]), 1),
+            (n > MOST || k > MOST, 3),
+            (miscounts(self.columns, self.side), 15),
+            (places != Some(entries(&self.out)), 4),
+            (unreduced([&self.point, &self.scale]), 5),
+        ]
+    }
+
     fn is_no_session(&self) -> bool {
         match self.kind {
             Open => self.side > 1 || self.weight > 2,
@@ -121,18 +136,24 @@ impl Step {
     }
 
     fn broken(&self) -> bool {
-        let [n, k, _, _, taken, closed] = self.numbers();
-        let miscounts = |rows| taken > rows || closed == 1 && taken < rows;
+        let [n, k, columns, side, _, taken, closed] = self.numbers();
+        let disagrees = |words| taken > words || closed == 1 && taken < words;
         let unused = self.words.iter().skip(POINT + 4 * k as usize);
         n > MOST
             || k > n
-            || rows(n).is_some_and(miscounts)
+            || miscounts(columns, side as u32)
+            || wide(n, columns).is_some_and(disagrees)
             || unreduced([&self.words[SCALE..]])
             || unused.into_iter().any(|&word| word != 0)
     }
 
-    fn numbers(&self) -> [u64; 6] {
-        [N, K, SIDE, WEIGHT, TAKEN, CLOSED].map(|at| self.words[at] as u64)
+    fn numbers(&self) -> [u64; 7] {
+        [N, K, COLUMNS, SIDE, WEIGHT, TAKEN, CLOSED].map(|at| self.words[at] as u64)
+    }
+
+    /// The words of the table of open's arguments, where those are a session's.
+    pub fn table_words(&self) -> usize {
+        wide(self.n, self.columns).unwrap() as usize
     }
 
     /// The session's words, out and the element after this accepted call.
@@ -142,7 +163,8 @@ impl Step {
         let [words, out] = match self.kind {
             Open => {
                 let k = entries(&self.point) as u32;
-                words = vec![self.n as u32, k, self.side, self.weight, 0, 0];
+                let columns = self.columns as u32;
+                words = vec![self.n as u32, k, columns, self.side, self.weight, 0, 0];
                 words.extend([&self.scale[..], &self.point].concat());
                 words.resize(WORDS, 0);
                 [words, vec![0; self.out.len()]]
@@ -163,9 +185,11 @@ impl Step {
         [words, out, element]
     }
 
-    /// Out with scale·weight·word added to the place of each word of the piece.
+    /// Out with scale·weight·word added to the column of the place of each word of
+    /// the piece.
     fn fed(&self) -> Vec<u32> {
-        let [n, k, side, weight, taken, _] = self.numbers().map(|number| number as usize);
+        let numbers = self.numbers().map(|number| number as usize);
+        let [n, k, columns, side, weight, taken, _] = numbers;
         let (rows, places) = (1 << k, 1 << (n - k));
         let (point, scale) = (&self.words[POINT..][..4 * k], &self.words[SCALE..POINT]);
         let eq = elements(&rust(NewFromPoint, [point, scale, &[]], k, 0)[0]);
@@ -179,18 +203,53 @@ impl Step {
         }
         let mut out = elements(&self.out);
         for (t, &word) in (taken..).zip(&self.piece) {
+            let (entry, column) = (t / columns, t % columns);
             let (row, place) = match side {
-                0 => (t / places, t % places),
-                _ => (t % rows, t / rows),
+                0 => (entry / places, entry % places),
+                _ => (entry % rows, entry / rows),
             };
-            out[place] += weights[row] * Base::new(word);
+            out[place * columns + column] += weights[row] * Base::new(word);
         }
         out.into_iter().flat_map(Element::words).collect()
     }
 
     /// Out of a whole table that was fed after this open, by each of the Rust's
-    /// arms. It has no next fold: that is the shifted one, and the last row.
+    /// arms: that of each column.
     pub fn folded(&self, table: &[u32]) -> Vec<Outcome<1>> {
+        let columns = self.columns as usize;
+        let outs: Vec<_> = (0..columns)
+            .map(|column| self.folded_column(table, column))
+            .collect();
+        let woven = |arm: usize| {
+            let mut woven = vec![0; self.out.len()];
+            for (i, element) in woven.chunks_exact_mut(4).enumerate() {
+                let [out] = &outs[i % columns][arm].lent;
+                element.copy_from_slice(&out[i / columns * 4..][..4]);
+            }
+            Outcome {
+                answer: 0,
+                lent: [woven],
+            }
+        };
+        (0..outs[0].len()).map(woven).collect()
+    }
+
+    /// The element of such an out that a read of this place gives.
+    pub fn folded_place(&self, table: &[u32]) -> Vec<Outcome<1>> {
+        let (columns, place) = (self.columns as usize, self.place as usize);
+        let mut folds = self.folded_column(table, place % columns);
+        for fold in &mut folds {
+            let [out] = &mut fold.lent;
+            *out = out[place / columns * 4..][..4].to_vec();
+        }
+        folds
+    }
+
+    /// The Rust's folds of one column, whose word w is word w·c + j of the table.
+    /// It has no next fold: that is the shifted one, and the last row.
+    fn folded_column(&self, table: &[u32], column: usize) -> Vec<Outcome<1>> {
+        let words = table[column..].iter().step_by(self.columns as usize);
+        let table = &words.copied().collect::<Vec<_>>()[..];
         let (n, k) = (self.n as usize, self.point.len() / 4);
         let fold = match (self.side, self.weight) {
             (0, 0) => CompressPrefix,
@@ -220,6 +279,25 @@ impl Step {
         })
         .collect()
     }
+}
+
+/// The words of a table of n variables with so many columns, or the elements of
+/// out where n remain; where a u64 can hold it.
+pub fn wide(n: u64, columns: u64) -> Option<u64> {
+    rows(n)?.checked_mul(columns)
+}
+
+/// The most columns on a side.
+pub fn most_columns(side: u32) -> u64 {
+    match side {
+        0 => MOST_COLUMNS,
+        _ => 1,
+    }
+}
+
+/// No session on this side has so many columns.
+fn miscounts(columns: u64, side: u32) -> bool {
+    columns < 1 || columns > most_columns(side)
 }
 
 /// Out of an accepted call of another operation, by each of the Rust's arms.

@@ -54,7 +54,7 @@ macro_rules! operations {
 }
 
 /// The words of a session before its coordinates, and those of the coordinates.
-pub const HEAD: usize = 10;
+pub const HEAD: usize = 11;
 pub const COORDINATES: usize = 80;
 
 operations! {
@@ -103,7 +103,7 @@ operations! {
     host_sum_prefix_var_mut = sum_prefix_var_mut writes(table) gives(count: u64);
 
     host_session_open = session_open
-        reads(point) scales(scale) numbers(n: u64, side: u32, weight: u32)
+        reads(point) scales(scale) numbers(n: u64, columns: u64, side: u32, weight: u32)
         writes(out) gives(head: [u32; HEAD], coordinates: [u32; COORDINATES]);
     host_session_feed = session_feed
         reads(piece) writes(out) gives(head: [u32; HEAD], coordinates: [u32; COORDINATES]);

@@ -6,5 +6,5 @@ pub invariant_of-result : goal.invariant_of-result
 invariant_of-result c =
     record {
       cut = rw (c.section.ensures, c.places.ensures)
-          (cut c.requires.sound c.requires.few.0 c.requires.few.1 c.requires.within c.requires.count c.requires.below);
+          (cut c.requires.sound c.requires.one_column c.requires.few.0 c.requires.few.1 c.requires.within c.requires.count c.requires.below);
     }

@@ -132,6 +132,7 @@ impl Reader {
                 self.head = Some(Step {
                     kind: Open,
                     n: n.into(),
+                    columns: 1,
                     side: side.into(),
                     weight: weight.into(),
                     scale: words(scale),

@@ -3,7 +3,7 @@ use Rattle.std.proofs.Common.{◌≡◌, ◌+◌, ◌*◌, ◌<◌, length, refl
 use Rattle.field.specs.Field.{from_words}
 use Rattle.table.proofs.Gaining.{turn}
 use Rattle.kernel.proofs.Weighing.{row_there}
-use Rattle.kernel.proofs.gain_rows.Goals as goal
+use Rattle.kernel.proofs.gain_short_rows.Goals as goal
 
 pub step-sum-requires : goal.step-sum-requires
 step-sum-requires g c =

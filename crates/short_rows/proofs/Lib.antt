@@ -1,0 +1,3 @@
+mod Putting
+mod Joining
+mod Summing
