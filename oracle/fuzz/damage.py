@@ -12,7 +12,7 @@ def fault_side_or_weight(rng, plan):
     if rng.random() < 0.5:
         plan.side = rng.choice((2, 3, 16, 255))
     else:
-        plan.weight = rng.choice((3, 4, 32, 255))
+        plan.weight = rng.choice((4, 5, 32, 255))
 
 
 def fault_sizes(rng, plan):

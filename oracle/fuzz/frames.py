@@ -1,6 +1,6 @@
 """The program `foldframes` as a function of its input.
 
-Document 01, "Frames"; document 02, (b) for the coordinates and (d) for missing words.
+Document 01, "Frames"; document 02, (b) for the coordinates, (d) for missing words and (f) for the weight 03.
 
 `Program` takes the lines one at a time, as the program does; `foldframes`
 takes the whole input and gives the whole of standard output.
@@ -54,8 +54,8 @@ def frame_of(line):
     else:
         refuse(12, len(frame) != LENGTHS[frame[0]])
     if frame[0] == 0x01:
-        # "side (00 prefix, 01 suffix), weight (00 plain, 01 shifted, 02 next)"
-        refuse(12, frame[1] > 1 or frame[2] > 2)
+        # "side (00 prefix, 01 suffix), weight (00 plain, 01 shifted, 02 next)"; document 02: cyclic, "frame value 03"
+        refuse(12, frame[1] > 1 or frame[2] > 3)
     return frame
 
 

@@ -56,7 +56,7 @@ def header_input(rng):
     """Each part of `01` drawn for itself, so that several refusals stand side by side."""
     scale = element(rng)
     line = open_line(
-        rng.choice((0, 0, 0, 1, 1, 1, 2, 255)), rng.choice((0, 1, 2, 0, 1, 2, 3, 255)),
+        rng.choice((0, 0, 0, 1, 1, 1, 2, 255)), rng.choice((0, 1, 2, 3, 0, 1, 2, 3, 4, 255)),
         *any_sizes(rng), spoil(rng, scale) if rng.random() < 0.4 else scale)
     return b"\n".join([line] + [some_line(rng) for _ in range(rng.randint(0, 2))] + [b""])
 

@@ -1,4 +1,4 @@
-"""The definitions of document 01, with plain integers and direct sums, and the padding of document 02.
+"""The definitions of document 01, with plain integers and direct sums, and document 02's padding and cyclic weight.
 
 An element is a tuple of four integers below P. Nothing here is made for
 speed but the folds of large tables, and nothing here refuses: frames.py and
@@ -11,7 +11,7 @@ ZERO = (0, 0, 0, 0)
 ONE = (1, 0, 0, 0)
 
 PREFIX, SUFFIX = 0, 1
-PLAIN, SHIFTED, NEXT = 0, 1, 2
+PLAIN, SHIFTED, NEXT, CYCLIC = 0, 1, 2, 3
 
 
 # The field: c0 + c1 X + c2 X^2 + c3 X^3 with X^4 = 11.
@@ -77,7 +77,12 @@ def next_weight(point, y):
     return add(shifted(point, y), eq(point, last)) if y == last else shifted(point, y)
 
 
-WEIGHTS = {PLAIN: eq, SHIFTED: shifted, NEXT: next_weight}
+def cyclic(point, y):
+    """ "eq[N-1] at row 0, eq[y-1] at the others" (document 02, (f)): the last row is followed by the first. """
+    return eq(point, y - 1 if y else 2 ** len(point) - 1)
+
+
+WEIGHTS = {PLAIN: eq, SHIFTED: shifted, NEXT: next_weight, CYCLIC: cyclic}
 
 
 def weight_table(weight, point, scale=ONE):
@@ -156,7 +161,7 @@ def followed(weight, row, table):
     """The table whose plain fold is the fold on this weight: in the place of each row the one after it."""
     if weight == PLAIN:
         return table
-    return table[row:] + (table[-row:] if weight == NEXT else [0] * row)
+    return table[row:] + {SHIFTED: [0] * row, NEXT: table[-row:], CYCLIC: table[:row]}[weight]
 
 
 def halves(point, row, table):

@@ -1,6 +1,7 @@
 """Frames as lines, and an accepted input in parts."""
 
 from draws import element, high_word, low_word, word_for
+from model import WEIGHTS
 
 SIZE_EDGES = list(range(21)) + [9, 10, 11, 19, 20, 21, 21, 22, 30, 31, 32, 33, 63, 64, 127, 128, 255]
 
@@ -47,7 +48,7 @@ def words_line(words):
 def some_line(rng):
     """A frame of any kind, or an empty line, for places where none belongs."""
     return rng.choice((
-        lambda: open_line(rng.randrange(2), rng.randrange(3), *sizes(rng), element(rng)),
+        lambda: open_line(rng.randrange(2), rng.randrange(len(WEIGHTS)), *sizes(rng), element(rng)),
         lambda: coordinate_line(rng.randrange(4), element(rng)),
         lambda: words_line([low_word(rng) for _ in range(rng.randrange(17))]),
         lambda: words_line([high_word(rng)]),
@@ -64,7 +65,7 @@ class Plan:
     """An accepted input in parts, so that a fault can be put into one of them."""
 
     def __init__(self, rng):
-        self.side, self.weight = rng.randrange(2), rng.randrange(3)
+        self.side, self.weight = rng.randrange(2), rng.randrange(len(WEIGHTS))
         self.n, self.k = sizes(rng)
         word = word_for(rng, self.k)
         self.scale = element(rng, word)

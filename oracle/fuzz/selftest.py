@@ -5,11 +5,12 @@ Run: python3 selftest.py
 
 import random
 import unittest
+import unittest.mock
 
 import calls
 import model
 from frames import foldframes
-from model import NEXT, P, PLAIN, PREFIX, SHIFTED, SUFFIX, base
+from model import CYCLIC, NEXT, P, PLAIN, PREFIX, SHIFTED, SUFFIX, WEIGHTS, ZERO, base
 from plans import Plan
 
 F = [1, 4, 9, 16]
@@ -81,20 +82,23 @@ class Definitions(unittest.TestCase):
                 point = [drawn(rng) for _ in range(k)]
                 words = [rng.choice((0, 1, P - 1, rng.randrange(P))) for _ in range(rng.randrange(2 ** n + 1))]
                 for side in (PREFIX, SUFFIX):
-                    for weight in (PLAIN, SHIFTED, NEXT):
+                    for weight in WEIGHTS:
                         arguments = side, weight, n, point, drawn(rng)
                         expected = model.fold(*arguments, words)
                         self.assertEqual(model.fold_sparse(*arguments, words), expected)
                         table = words + [0] * (2 ** n - len(words))
                         self.assertEqual(model.fold_halves(*arguments, table), expected)
 
-    def test_next_at_a_point(self):
+    def test_at_a_point(self):
+        """Next is done plus omega, cyclic "done plus carry", and shifted done alone."""
         rng = random.Random(2)
         for k in range(6):
             point, row = ([drawn(rng) for _ in range(k)] for _ in "pr")
-            _, done, omega = model.eval_next(point, row)
-            at = [model.mul(a, b) for a, b in zip(model.weight_table(NEXT, point), model.weight_table(PLAIN, row))]
-            self.assertEqual(model.total(at), model.add(done, omega))
+            carry, done, omega = model.eval_next(point, row)
+            # At k = 0 no row follows another, and carry, which is 1, is the last row's eq.
+            for weight, expected in ((SHIFTED, done), (NEXT, model.add(done, omega)), (CYCLIC, model.add(done, carry))):
+                tables = model.weight_table(weight, point), model.weight_table(PLAIN, row)
+                self.assertEqual(model.total(model.mul(a, b) for a, b in zip(*tables)), expected)
 
     def test_split(self):
         rng = random.Random(3)
@@ -158,7 +162,7 @@ class Padding(unittest.TestCase):
         rng = random.Random(5)
         for n, k in [(n, k) for n in range(5) for k in range(n + 1)]:
             point, scale, words = [drawn(rng) for _ in range(k)], drawn(rng), [rng.randrange(P) for _ in range(2 ** n)]
-            for weight in (PLAIN, SHIFTED, NEXT):
+            for weight in WEIGHTS:
                 for count in range(2 ** (n - k), 2 ** n + 1):
                     table = model.padded(PREFIX, n, k, words[:count])
                     out = self.by_missing_rows(weight, n, point, scale, words[:count])
@@ -182,11 +186,11 @@ class Padding(unittest.TestCase):
             cut = ("none" if came == 0 else "all" if came == 2 ** plan.n else "before one row" if came < row
                    else "within a row" if came % row else "at a row's end")
             cuts.add((plan.side, plan.weight, cut))
-        self.assertEqual(len(cuts), 2 * 3 * 5)
+        self.assertEqual(len(cuts), 2 * len(WEIGHTS) * 5)
 
     def test_mistakes(self):
         """Drawn inputs tell each of them, on each weight."""
-        left = {(name, weight) for name in MISTAKES for weight in (PLAIN, SHIFTED, NEXT)}
+        left = {(name, weight) for name in MISTAKES for weight in WEIGHTS}
         rng = random.Random(6)
         for plan in filter(lambda plan: left and plan.n <= 6, (Plan(rng) for _ in range(2000))):
             words = [word for piece in plan.pieces for word in piece]
@@ -198,6 +202,53 @@ class Padding(unittest.TestCase):
             right = out(model.padded)
             left -= {(name, weight) for name, weight in left if weight == plan.weight and out(MISTAKES[name]) != right}
         self.assertEqual(left, set())
+
+
+# Weights that are not the cyclic one.
+NOT_CYCLIC = {
+    "row 0 left at 0": model.shifted,
+    "the last row joined to itself": model.next_weight,
+    "row 0 by the first row's eq": lambda point, y: model.eq(point, max(0, y - 1)),
+    "0 at k = 0": lambda point, y: model.cyclic(point, y) if point else ZERO,
+}
+
+
+class Cyclic(unittest.TestCase):
+    """ "Rosters that come round" """
+
+    def test_tables(self):
+        self.assertEqual(model.weight_table(CYCLIC, []), bases(1))
+        self.assertEqual(model.weight_table(CYCLIC, Z[:1]), bases(2, -1))
+        self.assertEqual(model.weight_table(CYCLIC, Z), bases(6, 2, -3, -4))
+        self.assertEqual(model.value(CYCLIC, Z, F), base(-77))
+
+    def test_turned(self):
+        """The plain table with its last row first; the value is that of the table with its first row last."""
+        rng = random.Random(8)
+        for k in range(6):
+            point, words = [drawn(rng) for _ in range(k)], [rng.randrange(P) for _ in range(2 ** k)]
+            plain = model.weight_table(PLAIN, point)
+            self.assertEqual(model.weight_table(CYCLIC, point), plain[-1:] + plain[:-1])
+            self.assertEqual(model.value(CYCLIC, point, words), model.value(PLAIN, point, words[1:] + words[:1]))
+
+    def test_mistakes(self):
+        """Drawn inputs tell each of them, on each side."""
+        left = {(name, side) for name in NOT_CYCLIC for side in (PREFIX, SUFFIX)}
+        rng = random.Random(9)
+        for plan in (Plan(rng) for _ in range(1000)):
+            if plan.weight == CYCLIC and plan.n <= 4:
+                right = self.out(model.cyclic, plan)
+                left -= {(name, side) for name, side in left
+                         if side == plan.side and self.out(NOT_CYCLIC[name], plan) != right}
+        self.assertEqual(left, set())
+
+    def out(self, weight, plan):
+        """Out of the padded table on this weight."""
+        words = [word for piece in plan.pieces for word in piece]
+        point = [coordinate for _, coordinate in plan.coordinates]
+        table = model.padded(plan.side, plan.n, plan.k, words)
+        with unittest.mock.patch.dict(WEIGHTS, {CYCLIC: weight}):
+            return model.fold(plan.side, CYCLIC, plan.n, point, plan.scale, table)
 
 
 def element(c0, c1=0, c2=0, c3=0):
@@ -237,14 +288,17 @@ class Frames(unittest.TestCase):
 
     def test_worked(self):
         for side, weight, z, answer in (
-                (0, 0, 2, (17, 28)), (0, 1, 2, (-9, -16)), (1, 0, 3, (10, 30)), (1, 1, 3, (-8, -32))):
+                (0, 0, 2, (17, 28)), (0, 1, 2, (-9, -16)), (1, 0, 3, (10, 30)), (1, 1, 3, (-8, -32)),
+                (0, 3, 2, (-7, -8)), (1, 3, 3, (-5, -5))):
             self.says([open_line(2, 1, side, weight), "0200" + element(z), WORDS, "04"], out_lines(*answer))
         z = ["0200" + element(2), "0201" + element(3)]
         self.says([open_line(2, 2)] + z + [WORDS, "04"], out_lines(50))
         self.says([open_line(2, 2, 1, 2)] + z + [WORDS, "04"], out_lines(13))
+        self.says([open_line(2, 2, 0, 3)] + z + [WORDS, "04"], out_lines(-77))
         self.says([open_line(0, 0, 0, 0, 5), "030100000007", "04"], out_lines(35))
         self.says([open_line(0, 0, 0, 1, 5), "030100000007", "04"], out_lines(0))
         self.says([open_line(0, 0, 0, 2, 5), "030100000007", "04"], out_lines(35))
+        self.says([open_line(0, 0, 0, 3, 5), "030100000007", "04"], out_lines(35))
 
     def test_ends(self):
         self.assertEqual(foldframes(b""), b"ff09\n")
@@ -262,7 +316,7 @@ class Frames(unittest.TestCase):
                      "03", "0301", "030000000000", "0311" + "00000000" * 17, "0301" + "0000000A", POINT[:-2],
                      POINT + "00", "02", "02" + POINT, "04" + "0" * 200000):
             self.says([OPEN, line], "ff0c\n")
-        for line in (OPEN[:-2], OPEN + "00", open_line(2, 1, 2), open_line(2, 1, 0, 3), "02", POINT, WORDS, "04",
+        for line in (OPEN[:-2], OPEN + "00", open_line(2, 1, 2), open_line(2, 1, 0, 4), "02", POINT, WORDS, "04",
                      "0300", OPEN.replace("01", "01\0")):
             self.says([line], "ff0c\n")
         self.says([OPEN, OPEN], "ff0c\n")
@@ -307,9 +361,9 @@ class Frames(unittest.TestCase):
         """Of 1, 4, 9 the fourth word is 4 on the prefix side; of 1 and on the suffix side all missing are 0."""
         three, one = "0303000000010000000400000009", "030100000001"
         for side, weight, words, answer in (
-                (0, 0, three, (17, 4)), (0, 1, three, (-9, -4)), (0, 2, three, (9, 4)),
-                (0, 0, one, (-1, 0)), (0, 1, one, (0, 0)), (0, 2, one, (0, 0)),
-                (1, 0, three, (7, -9)), (1, 1, three, (-4, 0)), (1, 2, three, (4, 0))):
+                (0, 0, three, (17, 4)), (0, 1, three, (-9, -4)), (0, 2, three, (9, 4)), (0, 3, three, (-7, 4)),
+                (0, 0, one, (-1, 0)), (0, 1, one, (0, 0)), (0, 2, one, (0, 0)), (0, 3, one, (2, 0)),
+                (1, 0, three, (7, -9)), (1, 1, three, (-4, 0)), (1, 2, three, (4, 0)), (1, 3, three, (-2, 18))):
             lines = [open_line(2, 1, side, weight), POINT, words]
             self.says(lines + ["04"], out_lines(*answer))
             self.says(lines + ["0300", "04", ""], out_lines(*answer) + "ff0a\n")

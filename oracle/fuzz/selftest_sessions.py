@@ -1,4 +1,4 @@
-"""Document 02's (e) through the model of the fold session, and whether drawn calls tell other rules from it.
+"""Document 02's (e) and (f) through the model of the fold session, and whether drawn calls tell other rules from these.
 
 Run: python3 selftest_sessions.py
 """
@@ -7,8 +7,8 @@ import collections
 import random
 import unittest
 
-from model import NEXT, P, PLAIN, PREFIX, SHIFTED, SUFFIX, base
-from selftest import F
+from model import CYCLIC, NEXT, P, PLAIN, PREFIX, SHIFTED, SUFFIX, WEIGHTS, base
+from selftest import F, NOT_CYCLIC
 from session_draws import COLUMNS, REQUEST, draw_session, feed_call, open_call
 from sessions import Record, Sessions, folded
 
@@ -36,7 +36,7 @@ class Columns(unittest.TestCase):
     def test_worked(self):
         """f in one column, and the tenfold and the negative of it in two others."""
         table = [part for f in F for part in (f, 10 * f, P - f)]
-        for weight, answer in ((PLAIN, (17, 28)), (SHIFTED, (-9, -16)), (NEXT, (9, 16))):
+        for weight, answer in ((PLAIN, (17, 28)), (SHIFTED, (-9, -16)), (NEXT, (9, 16)), (CYCLIC, (-7, -8))):
             expected = words(*(part for f in answer for part in (f, 10 * f, -f)))
             for cut in range(13):
                 record, out = self.opened(2, 3, PREFIX, weight, (2,), [7] * 24)
@@ -112,7 +112,13 @@ def by_column(_, record, number):
     return (y, i, j) if record.side == PREFIX else REQUEST.part_of(record, number)
 
 
-# Rules that are not the request's.
+def on_cyclic(weight):
+    """Another weight in the place of the cyclic one."""
+    return replaced(weight_at=lambda self, record, y:
+                    (weight if record.weight == CYCLIC else WEIGHTS[record.weight])(record.point(), y))
+
+
+# Rules that are not the requests'.
 MISTAKES = {
     "columns taken for places": replaced(element_of=lambda self, record, i, j: j * 2 ** (record.n - record.k) + i),
     "a row's columns one after the other": replaced(part_of=by_row),
@@ -130,6 +136,7 @@ MISTAKES = {
     "no 16 columns": replaced(most={PREFIX: 15, SUFFIX: 1}),
     "no columns": replaced(least=0),
     "a read counts places without columns": replaced(read_places=lambda self, record: 2 ** (record.n - record.k)),
+    **{name: on_cyclic(weight) for name, weight in NOT_CYCLIC.items()},
 }
 
 

@@ -4,7 +4,7 @@ import copy
 
 from call_draws import bytes_of_words, old_bytes, short
 from draws import element, low_word, word_for
-from model import PREFIX
+from model import PREFIX, WEIGHTS
 from session_faults import OPEN_FAULTS, faults_of
 from sessions import COORDINATE_WORDS, HEAD_WORDS, Sessions
 
@@ -73,7 +73,7 @@ class SessionCall:
 
 def open_call(rng):
     """One that is accepted."""
-    side, weight, shape = rng.randrange(2), rng.randrange(3), rng.random()
+    side, weight, shape = rng.randrange(2), rng.randrange(len(WEIGHTS)), rng.random()
     n = rng.randint(0, 3 if shape < 0.7 else 8 if shape < 0.95 else 20)
     k = rng.randint(max(0, n - MOST_REMAIN), n)
     columns = rng.choice(COLUMNS) if side == PREFIX else 1

@@ -1,7 +1,7 @@
 """Faults for calls of sessions: in what open is told, in the record, in out and in the other arguments."""
 
 from draws import high_word, spoil
-from model import PREFIX
+from model import PREFIX, WEIGHTS
 
 
 def over_the_most(side):
@@ -66,7 +66,7 @@ def fault_side(rng, call):
 
 
 def fault_weight(rng, call):
-    call.record.weight = rng.randrange(3)
+    call.record.weight = rng.randrange(len(WEIGHTS))
 
 
 def fault_sizes(rng, call):

@@ -1,7 +1,7 @@
 """The fold session: each call as a function of what it is lent.
 
-Document 01, "Fold session" and "Refused calls"; document 02, (a) for reads and (e) for columns. What (e) fixes has a
-small function for each part, so that the self test can put another in its place.
+Document 01, "Fold session" and "Refused calls"; document 02, (a) for reads, (e) for columns and (f) for the cyclic
+weight. What (e) and (f) fix has a small function for each part, so that the self test can put another in its place.
 """
 
 import calls
@@ -80,6 +80,9 @@ class Sessions:
         # "column j of place i at i·c + j"
         return i * record.columns + j
 
+    def weight_at(self, record, y):
+        return model.WEIGHTS[record.weight](record.point(), y)
+
     def miscounts(self, columns, side):
         return columns < self.least or columns > self.most[side]
 
@@ -157,11 +160,11 @@ class Sessions:
 
     def added(self, record, piece, out):
         """ "Feed adds scale·weight·word to each word's place" """
-        point, weights, after = record.point(), {}, list(out)
+        weights, after = {}, list(out)
         for number, word in enumerate(piece, record.taken):
             y, i, j = self.part_of(record, number)
             if y not in weights:
-                weights[y] = model.mul(record.scale, model.WEIGHTS[record.weight](point, y))
+                weights[y] = model.mul(record.scale, self.weight_at(record, y))
             at = 4 * self.element_of(record, i, j)
             after[at:at + 4] = model.add(after[at:at + 4], model.times_word(weights[y], word))
         return after

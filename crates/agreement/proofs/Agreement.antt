@@ -6,22 +6,22 @@ use native.Mathlib.Decide.{dec_lt}
 use native.Mathlib.Omega.{arith}
 use mathlib.Core.List.{List}
 use lib.ListN.{length, get_or, get_or-eq_default}
-use Rattle.std.proofs.lemmas.List.FromFn.{length-map-range_with_len, get_or-map-range_with_len}
+use Rattle.std.proofs.lemmas.List.FromFn.{get_or-map-range_with_len}
 use Rattle.algebra.specs.Sum.{sum_to}
 use Rattle.algebra.proofs.Sums.{sum_ext}
 use Rattle.multilinear.specs.declared.Side.{Side}
-use Rattle.multilinear.specs.declared.Weight.TheVariants.{Next}
-use Rattle.multilinear.specs.Successors.{next_at}
-use Rattle.multilinear.specs.Folds.{word_of, fold_at}
+use Rattle.multilinear.specs.declared.Weight.{Weight}
+use Rattle.multilinear.specs.declared.Weight.TheVariants.{Next, Cyclic}
+use Rattle.multilinear.specs.Folds.{word_of, weight_at, fold_at}
+use Rattle.multilinear.proofs.Successors.{successor_laws}
 use Rattle.multilinear.proofs.Folds.{fold_ext}
 use Rattle.field.specs.Field.{Ext, field, base, from_words}
 use Rattle.field.proofs.Laws.{field_ring}
 use Rattle.table.specs.Table.{table_words, element_at, entries, point_of}
 use Rattle.table.specs.Refusals.{variables}
 use Rattle.table.proofs.Laws.{table_ext, table_at, elements_length}
-use Rattle.table.proofs.Powers.{power_zeros}
 use Rattle.point.specs.Point.{table_answer}
-use Rattle.poly.specs.Poly.{next_out}
+use Rattle.poly.specs.Poly.{weights_out}
 use Rattle.split_tests.specs.SplitTests.{fold_answer}
 use Rattle.split_eq.specs.Split.{fold_plan, fold_out, base_at}
 use Rattle.plan.specs.declared.Plan.{Plan}
@@ -37,13 +37,11 @@ use Rattle.ledger.proofs.Accepted.{opened}
 use Rattle.ledger.proofs.Ledgers.{words_fit}
 use Rattle.ledger.proofs.Demand3.{column_is}
 use Rattle.agreement.specs.Agreement.{table_column, out_column, Agreement}
-use Rattle.agreement.proofs.NextTable.{next_words}
+use Rattle.agreement.proofs.WeightTables.{weights_words}
+use Rattle.agreement.proofs.Sizes.{variables_are}
+use Rattle.agreement.proofs.Accepting.{column_length, accepted}
 
 module _ (plan : Plan) (ws : List ℕ) (j : ℕ) where
-  -- a column's words
-  column_length : length (table_column plan ws j) ≡ 2 ^ plan.n
-  column_length = length-map-range_with_len _ 0 (2 ^ plan.n)
-
   -- word w of it, and none behind it, where the table has no more than c·2^n words
   column_at : length ws ≤ capacity plan → (w : ℕ) → get_or (table_column plan ws j) w 0 ≡ get_or ws (w * plan.columns + j) 0
   column_at fits w = go (dec_lt w (2 ^ plan.n))
@@ -52,7 +50,7 @@ module _ (plan : Plan) (ws : List ℕ) (j : ℕ) where
       go (yes h) = get_or-map-range_with_len (λ t. get_or ws (t * plan.columns + j) 0) 0 (2 ^ plan.n) w w 0 h (omega arith)
       go (no h) =
           let le : 2 ^ plan.n * plan.columns ≤ w * plan.columns = mul-le-mul_right plan.columns (omega arith) in
-          get_or-eq_default (table_column plan ws j) 0 {n = w} (omega (arith, column_length))
+          get_or-eq_default (table_column plan ws j) 0 {n = w} (omega (arith, column_length plan ws j))
           ∙ sym (get_or-eq_default ws 0 {n = w * plan.columns + j} (omega (arith, le, mul_comm plan.columns (2 ^ plan.n))))
 
 -- both plans have as many variables, and the fold of a column has the column's words
@@ -65,8 +63,7 @@ as_in_one_call a out cs j work out' h l g =
     let plan = planned a in
     let ws = joined cs (answers a out cs) in
     let column = table_column plan ws j in
-    let few : a.n < 64 = omega (arith, (opened a out (sym h)).sound.small) in
-    let n : variables (length column) ≡ a.n = ap variables (column_length plan ws j) ∙ power_zeros 64 a.n few in
+    let n : variables (length column) ≡ a.n = variables_are a.n (length column) (opened a out (sym h)).sound.small (column_length plan ws j) in
     rw g
     (table_ext (places plan) _ _ (λ i b. column_is a out h cs i j b l ∙ single plan (base_at ws) i j)
     ∙ table_ext (places plan) _ _
@@ -75,38 +72,45 @@ as_in_one_call a out cs j work out' h l g =
     ∙ ap (λ m. table_words (2 ^ (m - plan.k)) (plain_at plan (2 ^ (m - plan.k)) (base_at column))) (sym n)
     ∙ sym (one_fold (fold_plan a.side a.weight column a.point a.scale) refl column))
 
--- a fold on next weight is the sum against a table that has the weights
-against : (side : Side) (inner k : ℕ) (zs : List Ext) (scale : Ext) (f g : ℕ → Ext) → k ≡ length zs
-    → ((y : ℕ) → y < 2 ^ k → next_at field zs y ≡ g y) → (i : ℕ)
-    → fold_at field side Next inner zs scale f i
+-- a fold is the sum against a table that has the weights
+against : (side : Side) (weight : Weight) (inner k : ℕ) (zs : List Ext) (scale : Ext) (f g : ℕ → Ext) → k ≡ length zs
+    → ((y : ℕ) → y < 2 ^ k → weight_at field weight zs y ≡ g y) → (i : ℕ)
+    → fold_at field side weight inner zs scale f i
     ≡ sum_to field (2 ^ k) (λ y. field.mul (field.mul scale (g y)) (f (word_of side inner (2 ^ k) i y)))
 unfolding fold_at
-against side inner k zs scale f g e h i =
+against side weight inner k zs scale f g e h i =
     rw e
     (sum_ext field_ring (2 ^ length zs) _ _
     (λ y b. ap (λ x. field.mul (field.mul scale x) (f (word_of side inner (2 ^ length zs) i y))) (h y (rw e b))))
 
--- row y of the next table
-next_row : (point table : List ℕ) → table_answer point table ≡ 0 → (y : ℕ) → y < 2 ^ entries point
-    → next_at field (point_of point) y ≡ element_at (next_out point table) y
-unfolding next_out
-next_row point table h y b = rw h (sym (table_at (2 ^ entries point) (next_at field (point_of point)) y b))
+-- row y of such a table
+weight_row : (weight : Weight) (point table : List ℕ) → table_answer point table ≡ 0 → (y : ℕ) → y < 2 ^ entries point
+    → weight_at field weight (point_of point) y ≡ element_at (weights_out weight point table) y
+unfolding weights_out
+weight_row weight point table h y b = rw h (sym (table_at (2 ^ entries point) (weight_at field weight (point_of point)) y b))
 
-against_next : (a : Args) (out : List ℕ) (cs : List Call) (table : List ℕ) → a.weight ≡ Next → open_answer a out ≡ 0
+against_weights : (a : Args) (out : List ℕ) (cs : List Call) (table : List ℕ) → open_answer a out ≡ 0
     → table_answer a.point table ≡ 0 → (i j : ℕ) → i < places (planned a) → j < a.columns
     → element_at (after a out cs).out (i * a.columns + j)
     ≡ sum_to field (rows (planned a))
-    (λ y. field.mul (field.mul (from_words a.scale) (element_at (next_out a.point table) y))
+    (λ y. field.mul (field.mul (from_words a.scale) (element_at (weights_out a.weight a.point table) y))
     (base (get_or (joined cs (answers a out cs)) (word_in (planned a) i j y) 0)))
-against_next a out cs table e h t i j b l =
+against_weights a out cs table h t i j b l =
     let zs = coordinates_of (planned a) in
     let f = column_of (planned a) (base_at (joined cs (answers a out cs))) j in
     let zs-are : zs ≡ point_of a.point = given a.n (entries a.point) a.columns a.side a.weight a.scale a.point (omega arith) in
     column_is a out h cs i j b l ∙ single (planned a) (base_at (joined cs (answers a out cs))) i j
-    ∙ ap (λ w. fold_at field a.side w (places (planned a)) zs (from_words a.scale) f i) e
-    ∙ against a.side (places (planned a)) (entries a.point) zs (from_words a.scale) f (element_at (next_out a.point table))
+    ∙ against a.side a.weight (places (planned a)) (entries a.point) zs (from_words a.scale) f
+    (element_at (weights_out a.weight a.point table))
     (sym (elements_length (planned a).coordinates 0 (entries a.point)))
-    (λ y c. ap (λ us. next_at field us y) zs-are ∙ next_row a.point table t y c) i
+    (λ y c. ap (λ us. weight_at field a.weight us y) zs-are ∙ weight_row a.weight a.point table t y c) i
 
 pub agreement : Agreement
-agreement = record { one_call = as_in_one_call; next = against_next; next_table = next_words }
+agreement =
+    record {
+      one_call = as_in_one_call;
+      accepts = accepted;
+      weights = against_weights;
+      next_table = weights_words Next 2 (omega arith) (successor_laws field_ring).next;
+      cyclic_table = weights_words Cyclic 0 (omega arith) (successor_laws field_ring).cyclic;
+    }

@@ -1,3 +1,5 @@
-mod NextTable
+mod Sizes
+mod Accepting
+mod WeightTables
 pub mod Agreement
 pub mod OneColumn

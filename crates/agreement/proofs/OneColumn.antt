@@ -16,12 +16,12 @@ use Rattle.field.proofs.Laws.{field_ring}
 use Rattle.table.specs.Table.{table_words, get_at, element_at}
 use Rattle.table.specs.Refusals.{evaluated}
 use Rattle.point.specs.Point.{table_answer}
-use Rattle.poly.specs.Poly.{next_out}
+use Rattle.poly.specs.Poly.{weights_out, next_out}
 use Rattle.split_tests.specs.SplitTests.{fold_answer, remains}
 use Rattle.split_eq.specs.Split.{fold_plan, fold_out, base_at}
 use Rattle.split_eq.proofs.FoldOutcomes.{tested}
 use Rattle.plan.specs.declared.Plan.{Plan}
-use Rattle.plan.specs.Plan.{rows, places, coordinates_of, weight_in}
+use Rattle.plan.specs.Plan.{rows, places, coordinates_of, weight_in, word_in}
 use Rattle.plan.specs.Columns.{plain_at}
 use Rattle.plan.proofs.OneColumn.{one_width, one_table, one_fold, one_gained}
 use Rattle.ledger.specs.Session.{Args, planned, open_answer, read_answer}
@@ -43,7 +43,7 @@ module _ (plan : Plan) (one : plan.columns ≡ 1) (ws : List ℕ) (i : ℕ) wher
       (sum_ext field_ring (rows plan) _ _
       (λ y b. ap (λ t. field.mul (weight_in plan y) (base (get_or ws t 0))) (column_zero one (word_of plan.side (places plan) (rows plan) i y))))
 
-  gain_same : demand.last_gain plan ws i 0 ≡ last_gain plan ws i
+  gain_same : demand.row_gain plan ws i 0 (last_row field (coordinates_of plan)) ≡ last_gain plan ws i
   gain_same =
       let zs = coordinates_of plan in
       ap (λ t. field.mul (field.mul (from_words plan.scale) (eq_at field zs (last_row field zs))) (base (get_or ws t 0)))
@@ -76,7 +76,11 @@ module _ (a : Args) (one : a.columns ≡ 1) where
         ≡ sum_to field (rows (planned a))
         (λ y. field.mul (field.mul (from_words a.scale) (element_at (next_out a.point table) y)) (word_at (planned a) ws i y))
     next_place table e t i b =
-        ap (element_at (demand.after a out cs).out) (sym (at i)) ∙ agreement.next a out cs table e h t i 0 b some
+        ap (element_at (demand.after a out cs).out) (sym (at i)) ∙ agreement.weights a out cs table h t i 0 b some
+        ∙ ap
+        (λ w. sum_to field (rows (planned a))
+        (λ y. field.mul (field.mul (from_words a.scale) (element_at (weights_out w a.point table) y))
+        (base (get_or ws (word_in (planned a) i 0 y) 0)))) e
         ∙ sum_ext field_ring (rows (planned a)) _ _
         (λ y c. ap (λ n. field.mul (field.mul (from_words a.scale) (element_at (next_out a.point table) y)) (base (get_or ws n 0)))
         (column_zero one (word_of a.side (places (planned a)) (rows (planned a)) i y)))
@@ -107,7 +111,8 @@ one_column =
           ∙ demand3.successors a out out' h h' cs ds e i 0 b (some a one)
           ∙ ap
           (λ m. field.add (element_at (demand.after (demand.with_weight a Shifted) out cs).out m)
-          (demand.last_gain (planned a) (joined cs (demand.answers (demand.with_weight a Shifted) out cs)) i 0)) (at a one i)
+          (demand.row_gain (planned a) (joined cs (demand.answers (demand.with_weight a Shifted) out cs)) i 0
+          (last_row field (coordinates_of (planned a))))) (at a one i)
           ∙ ap (field.add (element_at (demand.after (demand.with_weight a Shifted) out cs).out i))
           (gain_same (planned a) one (joined cs (demand.answers (demand.with_weight a Shifted) out cs)) i);
       next = λ a out cs table one e h t i b. next_place a one out h cs table e t i b;

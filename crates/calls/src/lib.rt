@@ -33,6 +33,8 @@ pub enum OnPoints {
     PolyEvalBase,
     PolyEvalExt,
     PolyEvalNextBase,
+    NewCyclicFromPoint,
+    PolyEvalCyclicBase,
 }
 
 // A work buffer.
@@ -47,6 +49,8 @@ pub enum OnSplit {
     CompressSuffix,
     CompressPrefixShifted,
     CompressSuffixShifted,
+    CompressPrefixCyclic,
+    CompressSuffixCyclic,
 }
 
 // The table that it changes.
@@ -101,6 +105,10 @@ impl TryFrom<u32> for Operation {
             24 => Operation::OnTable(OnTable::FixSuffixVarMut),
             25 => Operation::OnTable(OnTable::FixPrefixVarMutMonomial),
             26 => Operation::OnTable(OnTable::SumPrefixVarMut),
+            27 => Operation::OnPoints(OnPoints::NewCyclicFromPoint),
+            28 => Operation::OnPoints(OnPoints::PolyEvalCyclicBase),
+            29 => Operation::OnSplit(OnSplit::CompressPrefixCyclic),
+            30 => Operation::OnSplit(OnSplit::CompressSuffixCyclic),
             _ => return Err(UnknownOperation(number)),
         })
     }
@@ -121,10 +129,12 @@ impl OnPoints {
     fn words(self) -> Option<usize> {
         match self {
             OnPoints::EqualityAtVertex | OnPoints::EvalEq | OnPoints::EvalSelect => Some(4),
-            OnPoints::PolyEvalBase | OnPoints::PolyEvalExt | OnPoints::PolyEvalNextBase => Some(4),
+            OnPoints::PolyEvalBase | OnPoints::PolyEvalExt => Some(4),
+            OnPoints::PolyEvalNextBase | OnPoints::PolyEvalCyclicBase => Some(4),
             OnPoints::EvalNext => Some(12),
             OnPoints::EqualityWeightsMsb | OnPoints::EqualityWeightsLsb => None,
-            OnPoints::NewFromPoint | OnPoints::NewNextFromPoint => None,
+            OnPoints::NewFromPoint => None,
+            OnPoints::NewNextFromPoint | OnPoints::NewCyclicFromPoint => None,
             OnPoints::EvalEqBatch | OnPoints::EvalEqBatchAdd => None,
         }
     }
@@ -138,6 +148,7 @@ impl OnSplit {
             OnSplit::AccumulateInto => None,
             OnSplit::CompressPrefix | OnSplit::CompressSuffix => None,
             OnSplit::CompressPrefixShifted | OnSplit::CompressSuffixShifted => None,
+            OnSplit::CompressPrefixCyclic | OnSplit::CompressSuffixCyclic => None,
         }
     }
 }
@@ -192,11 +203,13 @@ fn on_points(operation: OnPoints, given: Given, out: &mut [u32]) -> Result<(), R
         OnPoints::EvalSelect => put(out, &point::select::eval_select(number, a)?.c),
         OnPoints::NewFromPoint => poly::new_from_point(a, element(b)?, out),
         OnPoints::NewNextFromPoint => poly::new_next_from_point(a, out),
+        OnPoints::NewCyclicFromPoint => poly::new_cyclic_from_point(a, out),
         OnPoints::EvalEqBatch => eq_batch::eval_eq_batch(number as usize, a, b, out),
         OnPoints::EvalEqBatchAdd => eq_batch::eval_eq_batch_add(number as usize, a, b, out),
         OnPoints::PolyEvalBase => put(out, &poly::value::eval_base(a, b)?.c),
         OnPoints::PolyEvalExt => put(out, &poly::value::eval_ext(a, b)?.c),
         OnPoints::PolyEvalNextBase => put(out, &poly::value::eval_next_base(a, b)?.c),
+        OnPoints::PolyEvalCyclicBase => put(out, &poly::value::eval_cyclic_base(a, b)?.c),
     }
 }
 
@@ -221,13 +234,15 @@ fn on_split(
         OnSplit::CompressPrefixShifted => {
             fold::compress_prefix_shifted(a, b, element(c)?, work, out)
         }
-        OnSplit::CompressSuffixShifted => fold::compress_suffix_shifted(
-            a,
-            b,
-            element(c)?,
-            work,
-            out,
-        ),
+        OnSplit::CompressSuffixShifted => {
+            fold::compress_suffix_shifted(a, b, element(c)?, work, out)
+        }
+        OnSplit::CompressPrefixCyclic => {
+            fold::compress_prefix_cyclic(a, b, element(c)?, work, out)
+        }
+        OnSplit::CompressSuffixCyclic => {
+            fold::compress_suffix_cyclic(a, b, element(c)?, work, out)
+        }
     }
 }
 

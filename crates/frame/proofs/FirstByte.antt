@@ -12,7 +12,7 @@ use Rattle.std.specs.Prelude.{Some, None}
 use Rattle.multilinear.specs.declared.Side.{Side}
 use Rattle.multilinear.specs.declared.Side.TheVariants.{Prefix, Suffix}
 use Rattle.multilinear.specs.declared.Weight.{Weight}
-use Rattle.multilinear.specs.declared.Weight.TheVariants.{Plain, Shifted, Next}
+use Rattle.multilinear.specs.declared.Weight.TheVariants.{Plain, Shifted, Next, Cyclic}
 use Rattle.multilinear.specs.Bytes.{side_byte, weight_byte}
 use Rattle.field.specs.declared.Element.{Element}
 use Rattle.frame.specs.declared.Frame.TheVariants.{Open, Coordinate, Words, Close}
@@ -28,15 +28,20 @@ pub side_small : (side : Side) → ltb (side_byte side) 2 ≡ true
 side_small Prefix = refl
 side_small Suffix = refl
 
-pub weight_reads : (weight : Weight) → cond (eqb (weight_byte weight) 0) Plain (cond (eqb (weight_byte weight) 1) Shifted Next) ≡ weight
+pub weight_reads : (weight : Weight)
+    → cond (eqb (weight_byte weight) 0) Plain
+    (cond (eqb (weight_byte weight) 1) Shifted (cond (eqb (weight_byte weight) 2) Next Cyclic))
+    ≡ weight
 weight_reads Plain = refl
 weight_reads Shifted = refl
 weight_reads Next = refl
+weight_reads Cyclic = refl
 
-pub weight_small : (weight : Weight) → ltb (weight_byte weight) 3 ≡ true
+pub weight_small : (weight : Weight) → ltb (weight_byte weight) 4 ≡ true
 weight_small Plain = refl
 weight_small Shifted = refl
 weight_small Next = refl
+weight_small Cyclic = refl
 
 module _ (bs : List ℕ) where
   -- by its first byte
@@ -74,8 +79,8 @@ module _ (bs : List ℕ) where
   pub no_side : byte_at bs 0 ≡ 1 → 1 < byte_at bs 1 → None ≡ frame_by bs
   no_side e h = (rw (le-ltb (byte_at bs 1) 2 h, and-false (starts bs 21 1)) refl) ∙ by_open e
 
-  pub no_weight : byte_at bs 0 ≡ 1 → 2 < byte_at bs 2 → None ≡ frame_by bs
-  no_weight e h = (rw (le-ltb (byte_at bs 2) 3 h, and-false (starts bs 21 1 && ltb (byte_at bs 1) 2)) refl) ∙ by_open e
+  pub no_weight : byte_at bs 0 ≡ 1 → 3 < byte_at bs 2 → None ≡ frame_by bs
+  no_weight e h = (rw (le-ltb (byte_at bs 2) 4 h, and-false (starts bs 21 1 && ltb (byte_at bs 1) 2)) refl) ∙ by_open e
 
   pub too_many : byte_at bs 0 ≡ 3 → 16 < byte_at bs 1 → None ≡ frame_by bs
   too_many e h = (rw (lt-leb (byte_at bs 1) 16 h, and-false (starts bs (2 + 4 * byte_at bs 1) 3)) refl) ∙ by_words e

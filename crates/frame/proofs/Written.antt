@@ -59,7 +59,7 @@ written = record {
   open_back = λ side weight n k scale hn hk h.
       let bytes : List ℕ = 1 ∷ side_byte side ∷ weight_byte weight ∷ n ∷ k ∷ [] in
       let s = ltb-true (side_byte side) 2 (side_small side) in
-      let w = ltb-true (weight_byte weight) 3 (weight_small weight) in
+      let w = ltb-true (weight_byte weight) 4 (weight_small weight) in
       let small : Small bytes = (omega arith, (omega arith, (omega arith, (hn, (hk, tt))))) in
       ap frame_by (line_bytes scale.c h.fit bytes small)
       ∙ sym (opened (bytes ++ octets_of scale.c) refl (omega (arith, element_bytes scale h)) refl refl (sym (element_reads bytes scale h)));

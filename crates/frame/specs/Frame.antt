@@ -1,4 +1,4 @@
--- The frames (document 01, "Frames"): which one the bytes of a line are, and its fields. Assumes nothing.
+-- The frames (document 01, "Frames"; document 02, request (f)): which one the bytes of a line are, and its fields. Assumes nothing.
 --
 --     01 side weight n k scale
 --     02 index coordinate
@@ -8,7 +8,7 @@ use Rattle.std.specs.Prelude.{ℕ, ◌+◌, ◌*◌, Bool, cond, ◌&&◌, List,
 use Rattle.multilinear.specs.declared.Side.{Side}
 use Rattle.multilinear.specs.declared.Side.TheVariants.{Prefix, Suffix}
 use Rattle.multilinear.specs.declared.Weight.{Weight}
-use Rattle.multilinear.specs.declared.Weight.TheVariants.{Plain, Shifted, Next}
+use Rattle.multilinear.specs.declared.Weight.TheVariants.{Plain, Shifted, Next, Cyclic}
 use Rattle.field.specs.declared.Element.{Element}
 use Rattle.frame.specs.declared.Frame.{Frame}
 use Rattle.frame.specs.declared.Frame.TheVariants.{Open, Coordinate, Words, Close}
@@ -26,15 +26,16 @@ element_of bs b = record { c = words_at 4 bs b }
 abbrev pub starts : List ℕ → ℕ → ℕ → Bool
 starts bs size first = eqb (length bs) size && eqb (byte_at bs 0) first
 
--- "`01` side (00 prefix, 01 suffix), weight (00 plain, 01 shifted, 02 next), n, k (a byte each), scale"
+-- "`01` side (00 prefix, 01 suffix), weight (00 plain, 01 shifted, 02 next), n, k (a byte each), scale"; and 03 cyclic
 abbrev pub is_open : List ℕ → Bool
-is_open bs = starts bs 21 1 && ltb (byte_at bs 1) 2 && ltb (byte_at bs 2) 3
+is_open bs = starts bs 21 1 && ltb (byte_at bs 1) 2 && ltb (byte_at bs 2) 4
 
 abbrev pub side_of : List ℕ → Side
 side_of bs = cond (eqb (byte_at bs 1) 0) Prefix Suffix
 
 abbrev pub weight_of : List ℕ → Weight
-weight_of bs = cond (eqb (byte_at bs 2) 0) Plain (cond (eqb (byte_at bs 2) 1) Shifted Next)
+weight_of bs =
+    cond (eqb (byte_at bs 2) 0) Plain (cond (eqb (byte_at bs 2) 1) Shifted (cond (eqb (byte_at bs 2) 2) Next Cyclic))
 
 -- "`02` index byte, coordinate"
 abbrev pub is_coordinate : List ℕ → Bool

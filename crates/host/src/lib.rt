@@ -11,7 +11,7 @@ ghost use Rattle.std.specs.Prelude.{◌≡◌, true, false};
 ghost use Rattle.point.specs.declared.equality.BitOrder.TheVariants.{Msb, Lsb};
 ghost use Rattle.point.specs.Point.{vertex_answer, table_answer, equality_out, eval_select_answer};
 ghost use Rattle.next.specs.Next.{eval_eq_answer, eval_next_answer};
-ghost use Rattle.poly.specs.Poly.{new_answer, new_out, next_out};
+ghost use Rattle.poly.specs.Poly.{new_answer, new_out, next_out, cyclic_out};
 ghost use Rattle.eq_batch.specs.Batch.{batch_answer, set_out, add_out};
 ghost use Rattle.host_answers.specs.Host.{element_of, answered, shown};
 ghost use Rattle.host.specs.declared.elements.Operation.TheVariants.{Add, Sub, Mul, Neg, Double};
@@ -158,6 +158,14 @@ pub extern "C" fn host_new_next_from_point(point: &[u32], out: &mut [u32]) -> u3
     ensures out_after { out.new ≡ next_out point.now out.old }
 {
     table::answer(poly::new_next_from_point(point, out))
+}
+
+#[unsafe(no_mangle)]
+pub extern "C" fn host_new_cyclic_from_point(point: &[u32], out: &mut [u32]) -> u32
+    ensures value { result ≡ table_answer point.now out.old }
+    ensures out_after { out.new ≡ cyclic_out point.now out.old }
+{
+    table::answer(poly::new_cyclic_from_point(point, out))
 }
 
 #[unsafe(no_mangle)]

@@ -7,7 +7,7 @@ pub mod fixed;
 
 ghost use Rattle.std.specs.Prelude.{◌≡◌};
 ghost use Rattle.multilinear.specs.declared.Side.TheVariants.{Prefix, Suffix};
-ghost use Rattle.multilinear.specs.declared.Weight.TheVariants.{Plain, Shifted};
+ghost use Rattle.multilinear.specs.declared.Weight.TheVariants.{Plain, Shifted, Cyclic};
 ghost use Rattle.poly.specs.Values as poly;
 ghost use Rattle.split_tests.specs.SplitTests.{fold_answer, accumulate_answer};
 ghost use Rattle.split_eq.specs.Split.{scaled_base_answer, scaled_ext_answer, scaled_next_base_answer, last_answer};
@@ -38,6 +38,18 @@ pub extern "C" fn host_poly_eval_next_base(table: &[u32], point: &[u32], out: &m
         ≡ shown (poly.eval_next_base_answer table.now point.now) out.old }
 {
     host_answers::give_words(poly::value::eval_next_base(table, point), out)
+}
+
+#[unsafe(no_mangle)]
+pub extern "C" fn host_poly_eval_cyclic_base(
+    table: &[u32],
+    point: &[u32],
+    out: &mut [u32; 4],
+) -> u32
+    ensures { answered result out.new
+        ≡ shown (poly.eval_cyclic_base_answer table.now point.now) out.old }
+{
+    host_answers::give_words(poly::value::eval_cyclic_base(table, point), out)
 }
 
 #[unsafe(no_mangle)]
@@ -254,4 +266,52 @@ pub extern "C" fn host_compress_suffix_shifted(
         c: [scale0, scale1, scale2, scale3],
     };
     table::answer(split_eq::fold::compress_suffix_shifted(table, point, scale, work, out))
+}
+
+#[unsafe(no_mangle)]
+pub extern "C" fn host_compress_prefix_cyclic(
+    table: &[u32],
+    point: &[u32],
+    scale0: u32,
+    scale1: u32,
+    scale2: u32,
+    scale3: u32,
+    work: &mut [u32],
+    out: &mut [u32],
+) -> u32
+    ensures value { result ≡ fold_answer table.now point.now
+        (element_of scale0 scale1 scale2 scale3) work.old out.old }
+    ensures work_after { work.new ≡ fold_work table.now point.now
+        (element_of scale0 scale1 scale2 scale3) work.old out.old }
+    ensures out_after { out.new ≡ fold_out Prefix Cyclic table.now point.now
+        (element_of scale0 scale1 scale2 scale3) work.old out.old }
+{
+    let scale = Element {
+        c: [scale0, scale1, scale2, scale3],
+    };
+    table::answer(split_eq::fold::compress_prefix_cyclic(table, point, scale, work, out))
+}
+
+#[unsafe(no_mangle)]
+pub extern "C" fn host_compress_suffix_cyclic(
+    table: &[u32],
+    point: &[u32],
+    scale0: u32,
+    scale1: u32,
+    scale2: u32,
+    scale3: u32,
+    work: &mut [u32],
+    out: &mut [u32],
+) -> u32
+    ensures value { result ≡ fold_answer table.now point.now
+        (element_of scale0 scale1 scale2 scale3) work.old out.old }
+    ensures work_after { work.new ≡ fold_work table.now point.now
+        (element_of scale0 scale1 scale2 scale3) work.old out.old }
+    ensures out_after { out.new ≡ fold_out Suffix Cyclic table.now point.now
+        (element_of scale0 scale1 scale2 scale3) work.old out.old }
+{
+    let scale = Element {
+        c: [scale0, scale1, scale2, scale3],
+    };
+    table::answer(split_eq::fold::compress_suffix_cyclic(table, point, scale, work, out))
 }

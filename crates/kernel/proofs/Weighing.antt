@@ -1,5 +1,5 @@
 -- Sums of words, each times its weight, coordinate by coordinate. Assumes nothing.
-use Rattle.std.proofs.Common.{◌≡◌, ℕ, zero, suc, ◌+◌, ◌*◌, ◌%◌, ◌<◌, ◌≤◌, get_or, length, List, [], ◌∷◌, refl, sym, ap, ◌∙◌, arith}
+use Rattle.std.proofs.Common.{◌≡◌, ℕ, zero, suc, ◌+◌, ◌-◌, ◌*◌, ◌%◌, ◌<◌, ◌≤◌, get_or, length, List, [], ◌∷◌, refl, sym, ap, ◌∙◌, arith}
 use Rattle.std.proofs.Math.Nat.{mul-le-mul_right, mul-le-mul_left, suc-mul, mul-suc, add-zero}
 use Rattle.std.proofs.lemmas.List.Elements.{All-from_get_or}
 use Rattle.algebra.specs.Residue.{reduce, residues}
@@ -18,7 +18,7 @@ use Rattle.field.specs.Inner.{unit}
 use Rattle.lowering.proofs.Laws.{raised_lowered}
 use Rattle.field.proofs.Multiples.{numbers_gain}
 use Rattle.lowering.specs.Lowering.{unit_inverse}
-use Rattle.kernel.specs.Kernel.{Groups, Weights, weight_at, weighed}
+use Rattle.kernel.specs.Kernel.{Groups, Row, Weights, weight_at, weighed}
 use Rattle.kernel.specs.Inner.{products, Raised, There}
 
 -- the element of four words
@@ -89,12 +89,14 @@ lowered_again n ws vs word r =
     field_ring.mul_comm _ _ ∙ sym (sum_scale field_ring n (base unit_inverse) _)
     ∙ sum_ext field_ring n _ _ (λ t h. field_ring.mul_comm _ _ ∙ term _ _ (r.each t h))
 
--- a word of each of k rows of n words, and words from a place on, where they are one apart or all the same
-pub row_there : {k from n : ℕ} {out words : List ℕ} (y : ℕ) → Groups k from n out words → y < n
-    → There k words (record { first = y; apart = n })
-row_there {k} {from} {n} y g h =
+-- a word of each of k rows of n words or fewer, and words from a place on, where they are one apart or all the same
+pub row_there : {k from n apart : ℕ} {out words : List ℕ} (y : ℕ) → Groups k from n out words → y < n → apart ≤ n
+    → There k words (record { first = y; apart = apart })
+row_there {k} {from} {n} {apart} y g h near =
     record {
-      within = λ t l. let m : suc t * n ≤ k * n = mul-le-mul_right n (omega arith) in omega (arith, suc-mul t n, g.there);
+      within = λ t l. let m : suc t * n ≤ k * n = mul-le-mul_right n (omega arith) in
+          let a : t * apart ≤ t * n = mul-le-mul_left t near in
+          omega (arith, suc-mul t n, g.there);
       below = below p _ g.words_below p_pos;
     }
 
@@ -115,6 +117,22 @@ weighed_place n ws words a = ap (weighed n ws) (λ j t. get_or words (place t j)
   where
     place : (t : ℕ) → t * 1 + a ≡ a + t
     place t = omega arith
+
+-- one word by one weight
+pub word_there : {apart start end : ℕ} {out words : List ℕ} {i : ℕ} → Row apart start end out words → i < end - start
+    → There 1 words (record { first = i * apart; apart = 0 })
+word_there {words} {i} r h =
+    record {
+      within = λ t l. let b = r.there i h in omega (arith, b);
+      below = below p _ r.words_below p_pos;
+    }
+
+pub one_weighed : (weight : Element) (words : List ℕ) (a : ℕ)
+    → weighed 1 (weight ∷ []) (λ t. get_or words (t * 0 + a) 0) ≡ field.mul (from_words weight) (base (get_or words a 0))
+unfolding weighed sum_to
+one_weighed weight words a =
+    let q : 0 * 0 + a ≡ a = omega arith in
+    zero_add field_ring _ ∙ ap (λ n. field.mul (from_words weight) (base (get_or words n 0))) q
 
 -- weights times 2³² are reduced
 pub raised_weights : {n : ℕ} {ws vs : List Element} → n ≤ 4 → length ws ≡ n → Raised n ws vs → Weights n vs

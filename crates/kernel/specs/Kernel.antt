@@ -1,5 +1,5 @@
 -- What the additions to out take and give. No operation that users call cites it. Assumes nothing.
-use Rattle.std.specs.Prelude.{◌≡◌, false, ℕ, ◌+◌, ◌*◌, ◌≤◌, List, [], length, get_or}
+use Rattle.std.specs.Prelude.{◌≡◌, false, ℕ, ◌+◌, ◌-◌, ◌*◌, ◌≤◌, ◌<◌, List, [], length, get_or}
 use Rattle.std.specs.List.{All}
 use Rattle.algebra.specs.Sum.{sum_to}
 use Rattle.algebra.specs.Words.{unreduced}
@@ -11,6 +11,14 @@ use Rattle.field.specs.declared.Element.{Element}
 pub record Groups (k from n : ℕ) (out words : List ℕ) : Type 0 where
   pub room : 4 * (from + n) ≤ length out
   pub there : k * n ≤ length words
+  pub words_below : unreduced p words ≡ false
+
+-- reduced words, `apart` from each other, one for each of out's places from `start` to before `end`
+-- A clause, as `Groups`.
+pub record Row (apart start end : ℕ) (out words : List ℕ) : Type 0 where
+  pub order : start ≤ end
+  pub room : 4 * end ≤ length out
+  pub there : (i : ℕ) → i < end - start → i * apart < length words
   pub words_below : unreduced p words ≡ false
 
 -- weight t, where there is one
@@ -30,6 +38,10 @@ weighed n weights word = sum_to field n (λ t. field.mul (from_words (weight_at 
 -- word y of each of k rows of n words, times the row's weight
 abbrev pub rows_at : ℕ → List Element → ℕ → List ℕ → ℕ → Ext
 rows_at k weights n words y = weighed k weights (λ t. get_or words (t * n + y) 0)
+
+-- word i of a row whose words stand `apart` from each other, times the weight
+abbrev pub row_at : Element → ℕ → List ℕ → ℕ → Ext
+row_at weight apart words i = field.mul (from_words weight) (base (get_or words (i * apart) 0))
 
 -- the k words of a place, each times its weight
 abbrev pub words_at : ℕ → List Element → List ℕ → ℕ → Ext

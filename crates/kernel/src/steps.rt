@@ -1,4 +1,4 @@
-// What one element gains, with one residue a coordinate.
+// What one element gains or is, with one residue a coordinate or divided by 2^32.
 ghost use Rattle.std.specs.Prelude.{◌≡◌, ◌+◌, ◌-◌, ◌*◌, ◌%◌, ◌<◌, ◌≤◌, length};
 ghost use Rattle.algebra.specs.Ring.{Ops};
 ghost use Rattle.field.specs.Field.{p, field, base, from_words, Reduced, Holds};
@@ -107,7 +107,8 @@ pub fn raised<const N: usize>(weights: [Element; N]) -> [Element; N]
     weights.map(lowering::raise)
 }
 
-// The same for `set_groups`, by a map of its own: a map that two functions call is copied into neither.
+// The same for `set_groups` and `set_rows`, by a map of its own: a map that two functions call is copied into neither, and `gain_long_rows` is
+// called more often.
 pub fn raised_apart<const N: usize>(weights: [Element; N]) -> [Element; N]
     requires weights { Weights N weights }
     ensures { Raised N weights.entry result }

@@ -4,11 +4,14 @@ use Prim.Native.Nat.{ℕ, ◌+◌, ◌*◌, ◌^◌, ◌≤◌, ◌<◌}
 use mathlib.Core.List.{List, [], ◌∷◌}
 use lib.ListN.{length, get_or}
 use borrow.Author.Tests.{lt-leb, le-leb}
-use Rattle.multilinear.specs.declared.Weight.TheVariants.{Shifted, Next}
-use Rattle.multilinear.specs.Successors.{eval_next, last_row, next_at}
+use Rattle.algebra.specs.Sum.{sum_to}
+use Rattle.multilinear.specs.declared.Side.{Side}
+use Rattle.multilinear.specs.declared.Weight.{Weight}
+use Rattle.multilinear.specs.declared.Weight.TheVariants.{Shifted, Next, Cyclic}
+use Rattle.multilinear.specs.Successors.{NextParts, eval_next, last_row, next_at, cyclic_at}
 use Rattle.multilinear.specs.Equality.{eq_at}
 use Rattle.multilinear.specs.Values.{value_at}
-use Rattle.multilinear.specs.Folds.{word_of}
+use Rattle.multilinear.specs.Folds.{word_of, fold_at}
 use Rattle.multilinear.proofs.Halves.{sum_scaled}
 use Rattle.multilinear.proofs.Successors.{successor_laws}
 use Rattle.multilinear.proofs.Folds.{fold_laws}
@@ -24,7 +27,7 @@ use Rattle.plan.proofs.Columns.{single, column_at}
 use Rattle.plan.proofs.Sections.{group_within}
 use Rattle.ledger.specs.Session.{State, Args, planned, open_answer, read_answer}
 use Rattle.ledger.specs.Ledger.{Call, feed, close, read, run, session_step, joined}
-use Rattle.ledger.specs.Demand3.{answers, after, unread, unread_answers, place_at, with_weight, last_gain, Demand3}
+use Rattle.ledger.specs.Demand3.{answers, after, unread, unread_answers, place_at, with_weight, row_gain, Gains, Demand3}
 use Rattle.ledger.proofs.Ledgers.{session_is_ledger, read_after, words_are, out_is}
 use Rattle.ledger.proofs.Unopened.{unopened}
 
@@ -74,33 +77,37 @@ apart (feed piece ∷ cs) st = ap (λ (r : List Outcome × State). ((session_ste
 apart (close ∷ cs) st = ap (λ (r : List Outcome × State). ((session_step close st).0 ∷ r.0, r.1)) (apart cs _)
 apart (read place ∷ cs) st = apart cs st
 
-next_adds : (a : Args) (out out' : List ℕ) → open_answer (with_weight a Shifted) out ≡ 0 → open_answer (with_weight a Next) out' ≡ 0
-    → (cs ds : List Call) → joined cs (answers (with_weight a Shifted) out cs) ≡ joined ds (answers (with_weight a Next) out' ds)
-    → (i j : ℕ) → i < places (planned a) → j < a.columns
-    → element_at (after (with_weight a Next) out' ds).out (i * a.columns + j)
-    ≡ field.add (element_at (after (with_weight a Shifted) out cs).out (i * a.columns + j))
-    (last_gain (planned a) (joined cs (answers (with_weight a Shifted) out cs)) i j)
-next_adds a out out' h h' cs ds e i j b l =
-    let plan = planned a in
-    let ws = joined cs (answers (with_weight a Shifted) out cs) in
-    let word : ℕ → Ext = λ t. base (get_or ws t 0) in
-    let zs = coordinates_of plan in
-    column_is (with_weight a Next) out' h' ds i j b l
-    ∙ ap (λ us. place_of (planned (with_weight a Next)) (λ t. base (get_or us t 0)) i j) (sym e)
-    ∙ single (planned (with_weight a Next)) word i j
-    ∙ (fold_laws field_ring).next plan.side (places plan) zs (from_words plan.scale) (column_of plan word j) i
-    ∙ ap
-    (λ k. field.add (plain_at (planned (with_weight a Shifted)) (places plan) (column_of plan word j) i)
-    (field.mul (field.mul (from_words plan.scale) (eq_at field zs (last_row field zs)))
-    (word (word_of plan.side (places plan) (2 ^ k) i (last_row field zs) * plan.columns + j))))
-    (elements_length plan.coordinates 0 plan.k)
-    ∙ ap (λ x. field.add x (last_gain plan ws i j))
-    (sym (single (planned (with_weight a Shifted)) word i j) ∙ sym (column_is (with_weight a Shifted) out h cs i j b l))
+-- the fold by a weight is the shifted one plus scale·eq(last row)·word of a row: so are the sessions
+module _ (weight : Weight) (row : List Ext → ℕ)
+    (law : (side : Side) (inner : ℕ) (zs : List Ext) (scale : Ext) (f : ℕ → Ext) (i : ℕ)
+    → fold_at field side weight inner zs scale f i
+    ≡ field.add (fold_at field side Shifted inner zs scale f i)
+    (field.mul (field.mul scale (eq_at field zs (last_row field zs))) (f (word_of side inner (2 ^ length zs) i (row zs))))) where
+  gains : Gains weight row
+  gains a out out' h h' cs ds e i j b l =
+      let plan = planned a in
+      let ws = joined cs (answers (with_weight a Shifted) out cs) in
+      let word : ℕ → Ext = λ t. base (get_or ws t 0) in
+      let zs = coordinates_of plan in
+      column_is (with_weight a weight) out' h' ds i j b l
+      ∙ ap (λ us. place_of (planned (with_weight a weight)) (λ t. base (get_or us t 0)) i j) (sym e)
+      ∙ single (planned (with_weight a weight)) word i j
+      ∙ law plan.side (places plan) zs (from_words plan.scale) (column_of plan word j) i
+      ∙ ap
+      (λ k. field.add (plain_at (planned (with_weight a Shifted)) (places plan) (column_of plan word j) i)
+      (field.mul (field.mul (from_words plan.scale) (eq_at field zs (last_row field zs)))
+      (word (word_of plan.side (places plan) (2 ^ k) i (row zs) * plan.columns + j))))
+      (elements_length plan.coordinates 0 plan.k)
+      ∙ ap (λ x. field.add x (row_gain plan ws i j (row zs)))
+      (sym (single (planned (with_weight a Shifted)) word i j) ∙ sym (column_is (with_weight a Shifted) out h cs i j b l))
 
-next_is : (ss ts : List Ext) → length ss ≡ length ts
-    → value_at field ts (next_at field ss) ≡ field.add (eval_next field ss ts).done (eval_next field ss ts).omega
+-- the table of a weight at a second point
+at_second : (weight : List Ext → ℕ → Ext) (sum : NextParts Ext → Ext)
+    → ((ss ts : List Ext) → length ss ≡ length ts
+    → sum_to field (2 ^ length ss) (λ y. field.mul (eq_at field ts y) (weight ss y)) ≡ sum (eval_next field ss ts))
+    → (ss ts : List Ext) → length ss ≡ length ts → value_at field ts (weight ss) ≡ sum (eval_next field ss ts)
 unfolding value_at
-next_is ss ts h = rw (sym h) ((successor_laws field_ring).next ss ts h)
+at_second weight sum law ss ts h = rw (sym h) (law ss ts h)
 
 pub demand3 : Demand3
 demand3 =
@@ -111,6 +118,8 @@ demand3 =
       reads_are = read_holds;
       reads_beyond = no_place;
       reads_apart = apart;
-      successors = next_adds;
-      next_table = next_is;
+      successors = gains Next (last_row field) (fold_laws field_ring).next;
+      rounds = gains Cyclic (λ zs. 0) (fold_laws field_ring).cyclic;
+      next_table = at_second (next_at field) (λ e. field.add e.done e.omega) (successor_laws field_ring).next;
+      cyclic_table = at_second (cyclic_at field) (λ e. field.add e.done e.carry) (successor_laws field_ring).cyclic;
     }

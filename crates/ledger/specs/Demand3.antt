@@ -1,12 +1,12 @@
 -- Demand 3 as one statement, on what the contracts of open, feed, close and read say: sessions after every list of calls. That a point's
--- next table at a second point is done + omega stands here for elements, and on the words that the operations take and give in
--- `Agreement` (crates/agreement). Assumes nothing.
+-- next table at a second point is done + omega, and its cyclic table done + carry, stands here for elements, and on the words that the
+-- operations take and give in `Agreement` (crates/agreement). Assumes nothing.
 use Rattle.std.specs.Prelude.{◌≡◌, ℕ, ◌+◌, ◌*◌, ◌≤◌, ◌<◌, List, [], ◌∷◌, length, get_or, replicate}
 use Rattle.algebra.specs.Sum.{sum_to}
 use Rattle.multilinear.specs.declared.Weight.{Weight}
-use Rattle.multilinear.specs.declared.Weight.TheVariants.{Shifted, Next}
+use Rattle.multilinear.specs.declared.Weight.TheVariants.{Shifted, Next, Cyclic}
 use Rattle.multilinear.specs.Equality.{eq_at}
-use Rattle.multilinear.specs.Successors.{eval_next, last_row, next_at}
+use Rattle.multilinear.specs.Successors.{eval_next, last_row, next_at, cyclic_at}
 use Rattle.multilinear.specs.Values.{value_at}
 use Rattle.field.specs.Field.{Ext, field, base, to_words, from_words}
 use Rattle.table.specs.Table.{get_at, element_at}
@@ -51,11 +51,22 @@ place_at plan ws i j =
 abbrev pub with_weight : Args → Weight → Args
 with_weight a w = record { n = a.n; columns = a.columns; side = a.side; weight = w; scale = a.scale; point = a.point }
 
--- scale·eq(last row)·word of that row, at column j of place i
-abbrev pub last_gain : Plan → List ℕ → ℕ → ℕ → Ext
-last_gain plan ws i j =
+-- scale·eq(last row)·word of row y, at column j of place i
+abbrev pub row_gain : Plan → List ℕ → ℕ → ℕ → ℕ → Ext
+row_gain plan ws i j y =
     let zs = coordinates_of plan in
-    field.mul (field.mul (from_words plan.scale) (eq_at field zs (last_row field zs))) (word_at plan ws i j (last_row field zs))
+    field.mul (field.mul (from_words plan.scale) (eq_at field zs (last_row field zs))) (word_at plan ws i j y)
+
+-- two sessions, one on shifted weight and one on this, and otherwise alike, each opened on an out of its own, whose accepted pieces join to
+-- the same words: in every column this is shifted plus scale·eq(last row)·word of a row, which the coordinates give
+abbrev pub Gains : Weight → (List Ext → ℕ) → Type 0
+Gains weight row =
+    (a : Args) (out out' : List ℕ) → open_answer (with_weight a Shifted) out ≡ 0 → open_answer (with_weight a weight) out' ≡ 0
+    → (cs ds : List Call) → joined cs (answers (with_weight a Shifted) out cs) ≡ joined ds (answers (with_weight a weight) out' ds)
+    → (i j : ℕ) → i < places (planned a) → j < a.columns
+    → element_at (after (with_weight a weight) out' ds).out (i * a.columns + j)
+    ≡ field.add (element_at (after (with_weight a Shifted) out cs).out (i * a.columns + j))
+    (row_gain (planned a) (joined cs (answers (with_weight a Shifted) out cs)) i j (row (coordinates_of (planned a))))
 
 pub record Demand3 : Type 0 where
   -- after every list of calls from an accepted open: all answers, a read's with its element, the session and out are the ledger's
@@ -78,14 +89,11 @@ pub record Demand3 : Type 0 where
   -- the other calls alike
   pub reads_apart : (cs : List Call) (st : State)
       → run session_step (unread cs) st ≡ (unread_answers cs (run session_step cs st).0, (run session_step cs st).1)
-  -- two sessions, one on shifted and one on next weight and otherwise alike, each opened on an out of its own, whose accepted pieces
-  -- join to the same words: in every column next is shifted plus scale·eq(last row)·word
-  pub successors : (a : Args) (out out' : List ℕ) → open_answer (with_weight a Shifted) out ≡ 0 → open_answer (with_weight a Next) out' ≡ 0
-      → (cs ds : List Call) → joined cs (answers (with_weight a Shifted) out cs) ≡ joined ds (answers (with_weight a Next) out' ds)
-      → (i j : ℕ) → i < places (planned a) → j < a.columns
-      → element_at (after (with_weight a Next) out' ds).out (i * a.columns + j)
-      ≡ field.add (element_at (after (with_weight a Shifted) out cs).out (i * a.columns + j))
-      (last_gain (planned a) (joined cs (answers (with_weight a Shifted) out cs)) i j)
-  -- a point's next table at a second point is `eval_next`'s done + omega
+  -- a session on next weight has the last row's word beside, and one on cyclic weight that of row 0
+  pub successors : Gains Next (last_row field)
+  pub rounds : Gains Cyclic (λ zs. 0)
+  -- a point's next table at a second point is `eval_next`'s done + omega, and its cyclic table done + carry
   pub next_table : (ss ts : List Ext) → length ss ≡ length ts
       → value_at field ts (next_at field ss) ≡ field.add (eval_next field ss ts).done (eval_next field ss ts).omega
+  pub cyclic_table : (ss ts : List Ext) → length ss ≡ length ts
+      → value_at field ts (cyclic_at field ss) ≡ field.add (eval_next field ss ts).done (eval_next field ss ts).carry

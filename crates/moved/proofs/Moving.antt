@@ -12,7 +12,7 @@ use Rattle.algebra.proofs.Sums.{sum_ext}
 use Rattle.multilinear.specs.declared.Side.{Side}
 use Rattle.multilinear.specs.declared.Side.TheVariants.{Prefix, Suffix}
 use Rattle.multilinear.specs.declared.Weight.{Weight}
-use Rattle.multilinear.specs.declared.Weight.TheVariants.{Plain, Shifted, Next}
+use Rattle.multilinear.specs.declared.Weight.TheVariants.{Plain, Shifted, Next, Cyclic}
 use Rattle.multilinear.specs.Folds.{word_of}
 use Rattle.multilinear.specs.Inner.{skip_of, moved_at}
 use Rattle.multilinear.proofs.Weighed.{moved_agree}
@@ -31,6 +31,7 @@ pub skip_small : (weight : Weight) → skip_of weight ≤ 1
 skip_small Plain = omega arith
 skip_small Shifted = omega arith
 skip_small Next = omega arith
+skip_small Cyclic = omega arith
 
 module _ (side : Side) (piece : Piece) where
   abbrev word : ℕ → Ext

@@ -298,7 +298,7 @@ module _ (s : Blocks) where
       few_is e h i =
           let m = sym e ∙ r in
           ap₂ (λ m l. sum_to field m (λ z. field.mul (weight_of s.split.block.now skip z) (base (table_word piece (i * l + z))))) m r
-          ∙ row_sum piece.point.count piece.point.words.now _ piece.inner skip (table_word piece) i s.split.block.now
+          ∙ row_sum piece.point.count piece.point.words.now _ piece.inner skip (table_word piece) i Suffix s.split.block.now
           (skip_fits piece r q) (whole_block (low_is (omega (arith, e))))
           ∙ ap (λ n.
           moved_at field Suffix n piece.inner (coordinates piece.point) (from_words piece.scale) (λ t. base (table_word piece t)) i) q

@@ -11,11 +11,12 @@ use borrow.Author.Tests.{le-ltb}
 use Rattle.algebra.specs.Sum.{sum_to}
 use Rattle.algebra.proofs.Ring.{mul_zero}
 use Rattle.algebra.proofs.Sums.{sum_ext}
+use Rattle.multilinear.specs.declared.Side.{Side}
 use Rattle.multilinear.specs.declared.Side.TheVariants.{Suffix}
 use Rattle.multilinear.specs.Equality.{eq_at}
 use Rattle.multilinear.specs.declared.Weight.{Weight}
 use Rattle.multilinear.specs.declared.Weight.TheVariants.{Plain, Shifted}
-use Rattle.multilinear.specs.Folds.{weight_at, fold_at}
+use Rattle.multilinear.specs.Folds.{word_of, weight_at, fold_at}
 use Rattle.multilinear.specs.Inner.{moved_at}
 use Rattle.multilinear.specs.Values.{value_at}
 use Rattle.multilinear.proofs.Folds.{moved_value, moved_plain, moved_shifted}
@@ -113,15 +114,19 @@ module _ (k : ℕ) (point : List ℕ) (scale : Ext) (inner skip : ℕ) (word : �
       (λ y c. ap base (e y) ∙ base_cond (ltb (y + skip) (2 ^ k)) (word (i * 2 ^ k + (y + skip)))
       ∙ ap (λ n. cond (ltb (y + skip) n) (base (word (i * n + (y + skip)))) field.zero) (sym rows_are))
 
-  -- and against the weights of the rows, where the block has them all
-  module _ (block : List ℕ) (one : skip ≤ 1) (holds : (y : ℕ) → y < 2 ^ k → element_at block y ≡ field.mul scale (eq_at field zs y)) where
+  -- and on either side against the weights of the rows, where the block has them all
+  module _ (side : Side) (block : List ℕ) (one : skip ≤ 1)
+      (holds : (y : ℕ) → y < 2 ^ k → element_at block y ≡ field.mul scale (eq_at field zs y)) where
+    abbrev row_word : ℕ → ℕ → Ext
+    row_word n y = base (word (word_of side inner n i y))
+
     rows_sum : (weight : Weight) (s : ℕ) → ((y : ℕ) → y < 2 ^ k → weight_of block s y ≡ field.mul scale (weight_at field weight zs y))
-        → sum_to field (2 ^ k) (λ y. field.mul (weight_of block s y) (base (word (i * 2 ^ k + y))))
-        ≡ fold_at field Suffix weight inner zs scale (λ t. base (word t)) i
+        → sum_to field (2 ^ k) (λ y. field.mul (weight_of block s y) (row_word (2 ^ k) y))
+        ≡ fold_at field side weight inner zs scale (λ t. base (word t)) i
     unfolding fold_at
     rows_sum weight s e =
-        sum_ext field_ring (2 ^ k) _ _ (λ y h. ap (λ w. field.mul w (base (word (i * 2 ^ k + y)))) (e y h))
-        ∙ ap (λ n. sum_to field n (λ y. field.mul (field.mul scale (weight_at field weight zs y)) (base (word (i * n + y))))) (sym rows_are)
+        sum_ext field_ring (2 ^ k) _ _ (λ y h. ap (λ w. field.mul w (row_word (2 ^ k) y)) (e y h))
+        ∙ ap (λ n. sum_to field n (λ y. field.mul (field.mul scale (weight_at field weight zs y)) (row_word n y))) (sym rows_are)
 
     own_weight : (y : ℕ) → y < 2 ^ k → weight_of block 0 y ≡ field.mul scale (weight_at field Plain zs y)
     unfolding weight_of
@@ -132,14 +137,15 @@ module _ (k : ℕ) (point : List ℕ) (scale : Ext) (inner skip : ℕ) (word : �
     weight_before zero h = sym (mul_zero field_ring scale)
     weight_before (suc y) h = let q : suc y - 1 ≡ y = omega arith in rw (le-ltb (suc y) 1 (omega arith), q) (holds y (omega arith))
 
-    pub row_sum : sum_to field (2 ^ k) (λ y. field.mul (weight_of block skip y) (base (word (i * 2 ^ k + y)))) ≡ moved
+    pub row_sum : sum_to field (2 ^ k) (λ y. field.mul (weight_of block skip y) (row_word (2 ^ k) y))
+        ≡ moved_at field side skip inner zs scale (λ t. base (word t)) i
     row_sum = go skip one
       where
         go : (s : ℕ) → s ≤ 1
-            → sum_to field (2 ^ k) (λ y. field.mul (weight_of block s y) (base (word (i * 2 ^ k + y))))
-            ≡ moved_at field Suffix s inner zs scale (λ t. base (word t)) i
-        go zero l = rows_sum Plain 0 own_weight ∙ sym (moved_plain field_ring Suffix inner zs scale (λ t. base (word t)) i)
-        go (suc zero) l = rows_sum Shifted 1 weight_before ∙ sym (moved_shifted field_ring Suffix inner zs scale (λ t. base (word t)) i)
+            → sum_to field (2 ^ k) (λ y. field.mul (weight_of block s y) (row_word (2 ^ k) y))
+            ≡ moved_at field side s inner zs scale (λ t. base (word t)) i
+        go zero l = rows_sum Plain 0 own_weight ∙ sym (moved_plain field_ring side inner zs scale (λ t. base (word t)) i)
+        go (suc zero) l = rows_sum Shifted 1 weight_before ∙ sym (moved_shifted field_ring side inner zs scale (λ t. base (word t)) i)
         go (suc (suc s)) l = absurd (omega arith)
 
 -- the words of n rows by their weights

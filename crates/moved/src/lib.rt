@@ -65,7 +65,7 @@ pub fn skip_of(weight: Weight) -> usize
 {
     match weight {
         Weight::Plain => 0,
-        Weight::Shifted | Weight::Next => 1,
+        Weight::Shifted | Weight::Next | Weight::Cyclic => 1,
     }
 }
 

@@ -1,7 +1,7 @@
 -- The laws of folds (specs/Laws.antt), over any commutative ring, and folds by words moved a row on, for the code. Assumes nothing.
 use mathlib.Core.Path.{◌≡◌, refl, sym, ap, ◌∙◌}
 use mathlib.Core.Bool.{cond}
-use Prim.Native.Nat.{ℕ, suc, ◌+◌, ◌*◌, ◌^◌, ◌<◌, ◌≤◌}
+use Prim.Native.Nat.{ℕ, suc, ◌+◌, ◌*◌, ◌%◌, ◌^◌, ◌<◌, ◌≤◌}
 use native.Mathlib.Omega.{arith}
 use native.Mathlib.Numerals.{add-one}
 use native.Mathlib.Nat.{add-zero as Nat·add-zero, add-mul, mul_assoc as mul_assoc', add_assoc as add_assoc'}
@@ -17,16 +17,16 @@ use Rattle.algebra.proofs.Sums.{sum_ext, sum_none, sum_add, sum_moved}
 use Rattle.multilinear.specs.declared.Side.{Side}
 use Rattle.multilinear.specs.declared.Side.TheVariants.{Prefix, Suffix}
 use Rattle.multilinear.specs.declared.Weight.{Weight}
-use Rattle.multilinear.specs.declared.Weight.TheVariants.{Plain, Shifted, Next}
+use Rattle.multilinear.specs.declared.Weight.TheVariants.{Plain, Shifted, Next, Cyclic}
 use Rattle.multilinear.specs.Equality.{eq_at}
 use Rattle.multilinear.specs.Successors.{last_row, shifted_at}
-use Rattle.multilinear.specs.Values.{value_at, next_value_at}
+use Rattle.multilinear.specs.Values.{value_at}
 use Rattle.multilinear.specs.Folds.{word_of, weight_at, fold_at}
-use Rattle.multilinear.specs.Inner.{moved_at}
+use Rattle.multilinear.specs.Inner.{moved_at, own_value_at}
 use Rattle.multilinear.specs.Laws.{FoldLaws}
 use Rattle.multilinear.proofs.Halves.{sum_scaled}
-use Rattle.multilinear.proofs.Successors.{next_gains}
-use Rattle.multilinear.proofs.Values.{next_value_is}
+use Rattle.multilinear.proofs.Own.{next_beside, cyclic_beside, own_gains}
+use Rattle.multilinear.proofs.Rounds.{round_sum}
 
 -- with one place a row, the words are the rows
 pub word_is_row : (side : Side) (rows y : ℕ) → word_of side 1 rows 0 y ≡ y
@@ -44,7 +44,20 @@ module _ {ℓ} {R : Type ℓ} {O : Ops R} (𝓡 : CommRing O) where
       ≡ fold_at O side Shifted inner zs scale f i
       ⊕ scale ⊗ eq_at O zs (last_row O zs) ⊗ f (word_of side inner (2 ^ length zs) i (last_row O zs))
   unfolding fold_at
-  fold_next side inner zs scale f i = next_gains 𝓡 zs scale (λ y. f (word_of side inner (2 ^ length zs) i y))
+  fold_next side inner zs scale f i = own_gains 𝓡 (next_beside 𝓡 zs) scale (λ y. f (word_of side inner (2 ^ length zs) i y))
+
+  fold_cyclic : (side : Side) (inner : ℕ) (zs : List R) (scale : R) (f : ℕ → R) (i : ℕ)
+      → fold_at O side Cyclic inner zs scale f i
+      ≡ fold_at O side Shifted inner zs scale f i ⊕ scale ⊗ eq_at O zs (last_row O zs) ⊗ f (word_of side inner (2 ^ length zs) i 0)
+  unfolding fold_at
+  fold_cyclic side inner zs scale f i = own_gains 𝓡 (cyclic_beside 𝓡 zs) scale (λ y. f (word_of side inner (2 ^ length zs) i y))
+
+  fold_round : (side : Side) (inner : ℕ) (zs : List R) (scale : R) (f : ℕ → R) (i : ℕ)
+      → fold_at O side Cyclic inner zs scale f i
+      ≡ sum_to O (2 ^ length zs)
+      (λ y. scale ⊗ eq_at O zs y ⊗ f (word_of side inner (2 ^ length zs) i ((y + 1) % 2 ^ length zs)))
+  unfolding fold_at
+  fold_round side inner zs scale f i = round_sum 𝓡 zs (λ y x. scale ⊗ x ⊗ f (word_of side inner (2 ^ length zs) i y))
 
   fold_whole : (side : Side) (zs : List R) (scale : R) (f : ℕ → R) → fold_at O side Plain 1 zs scale f 0 ≡ scale ⊗ value_at O zs f
   unfolding fold_at value_at
@@ -62,7 +75,7 @@ module _ {ℓ} {R : Type ℓ} {O : Ops R} (𝓡 : CommRing O) where
       (ap (λ n. n + j) (add-mul (y * inner) i c ∙ ap (λ n. n + i * c) (mul_assoc' y inner c)) ∙ add_assoc' (y * (inner * c)) (i * c) j))
 
   pub fold_laws : FoldLaws O
-  fold_laws = record { next = fold_next; whole = fold_whole; columns = fold_columns }
+  fold_laws = record { next = fold_next; cyclic = fold_cyclic; round = fold_round; whole = fold_whole; columns = fold_columns }
 
   -- a fold goes over sums of tables
   module _ (side : Side) (weight : Weight) (inner : ℕ) (zs : List R) (scale : R) where
@@ -121,10 +134,10 @@ module _ {ℓ} {R : Type ℓ} {O : Ops R} (𝓡 : CommRing O) where
       (λ y b. rw (add-one y, lt-ltb (suc y) (2 ^ length zs) b)) (rw (le-ltb (last_row O zs + 1) (2 ^ length zs) past))
       ∙ moved_ext side 1 inner zs scale f i _ (λ y b. refl))
 
-  pub next_value_moved : (zs : List R) (f h : ℕ → R) → ((y : ℕ) → suc y < 2 ^ length zs → h y ≡ f (suc y)) → h (last_row O zs) ≡ 𝟘
-      → next_value_at O zs f ≡ value_at O zs h ⊕ eq_at O zs (last_row O zs) ⊗ f (last_row O zs)
-  unfolding value_at
-  next_value_moved zs f h e l =
-      next_value_is 𝓡 zs f
-      ∙ ap (λ x. x ⊕ eq_at O zs (last_row O zs) ⊗ f (last_row O zs))
+  -- by the words one row later
+  pub own_value_moved : (own : ℕ) (zs : List R) (f h : ℕ → R) → ((y : ℕ) → suc y < 2 ^ length zs → h y ≡ f (suc y))
+      → h (last_row O zs) ≡ 𝟘 → own_value_at O own zs f ≡ value_at O zs h ⊕ eq_at O zs (last_row O zs) ⊗ f own
+  unfolding value_at own_value_at
+  own_value_moved own zs f h e l =
+      ap (λ x. x ⊕ eq_at O zs (last_row O zs) ⊗ f own)
       (sum_moved 𝓡 (2 ^ length zs) _ _ (zero_mul 𝓡 (f 0)) (λ y b. ap (O.mul _) (sym (e y b))) (ap (O.mul _) l ∙ mul_zero 𝓡 _))

@@ -3,6 +3,8 @@ pub mod Halves
 pub mod Split
 pub mod EqualityLaws
 pub mod Vertex
+pub mod Own
+pub mod Rounds
 pub mod Successors
 pub mod Select
 pub mod Values

@@ -1,24 +1,28 @@
 -- The laws of the successors (specs/Laws.antt), over any commutative ring: the next table of the first point at the second is done plus
--- omega. Assumes nothing.
+-- omega, and the cyclic table done plus carry. Assumes nothing.
 use mathlib.Core.Path.{◌≡◌, refl, sym, ap, ap₂, ◌∙◌}
 use mathlib.Core.Logic.{◌≢◌}
+use mathlib.Core.Bool.{cond}
 use Prim.Native.Nat.{ℕ, zero, suc, ◌+◌, ◌-◌, ◌^◌, ◌<◌}
 use native.Mathlib.Omega.{arith}
 use native.Mathlib.Nat.{add-suc as Nat·add-suc, two-pow-succ}
 use mathlib.Core.List.{List, [], ◌∷◌}
 use lib.ListN.{length}
 use lib.Pow.{pow_pos, ones_lt}
-use borrow.Author.Tests.{eq-eqb, ne_eqb}
+use lib.Dec.{eqb}
+use borrow.Author.Tests.{ne_eqb}
 use Rattle.algebra.specs.Ring.{Ops, CommRing, minus}
 use Rattle.algebra.specs.Sum.{sum_to}
-use Rattle.algebra.proofs.Ring.{zero_add, mul_zero, add_mul, mul_swap4}
+use Rattle.algebra.proofs.Ring.{zero_add, mul_zero, mul_swap4}
 use Rattle.algebra.proofs.Reading.{reading, ring}
 use Rattle.algebra.proofs.Sums.{sum_gain, sum_scale}
 use Rattle.multilinear.specs.Equality.{eq_at, agreement}
-use Rattle.multilinear.specs.Successors.{last_row, shifted_at, next_at, eval_next}
+use Rattle.multilinear.specs.Successors.{last_row, shifted_at, next_at, cyclic_at, eval_next}
 use Rattle.multilinear.specs.Laws.{SuccessorLaws}
 use Rattle.multilinear.proofs.Equality.{eq_low, eq_high, low_half, high_half}
 use Rattle.multilinear.proofs.Halves.{sum_halves, sum_scaled}
+use Rattle.multilinear.proofs.Own.{next_beside, cyclic_beside, own_sum}
+use Rattle.multilinear.proofs.Rounds.{follows}
 
 module _ {ℓ} {R : Type ℓ} {O : Ops R} (𝓡 : CommRing O) where
   open 𝓡 use {mul_comm, mul_one, mul_add}
@@ -117,31 +121,37 @@ module _ {ℓ} {R : Type ℓ} {O : Ops R} (𝓡 : CommRing O) where
   done_is (s ∷ ss) [] h = absurd (omega arith)
   done_is (s ∷ ss) (t ∷ ts) h = done_step s t ss ts (omega arith) (done_is ss ts (omega arith))
 
-  pub next_other : (zs : List R) (y : ℕ) → y ≢ last_row O zs → next_at O zs y ≡ shifted_at O zs y
-  next_other zs y d = rw (ne_eqb y (last_row O zs) d)
-
-  pub next_last : (zs : List R) → next_at O zs (last_row O zs) ≡ shifted_at O zs (last_row O zs) ⊕ eq_at O zs (last_row O zs)
-  next_last zs = rw (eq-eqb (last_row O zs) (last_row O zs) refl)
-
-  -- next is shifted plus eq at the last row: in any sum of a g that goes over sums
-  pub next_sum : (zs : List R) (g : ℕ → R → R) → ((y : ℕ) (a b : R) → g y (a ⊕ b) ≡ g y a ⊕ g y b)
-      → sum_to O (2 ^ length zs) (λ y. g y (next_at O zs y))
-      ≡ sum_to O (2 ^ length zs) (λ y. g y (shifted_at O zs y)) ⊕ g (last_row O zs) (eq_at O zs (last_row O zs))
-  next_sum zs g over =
-      sum_gain 𝓡 (2 ^ length zs) (λ y. g y (shifted_at O zs y)) (λ y. g y (next_at O zs y)) (last_row O zs) _ (ones_lt (length zs))
-      (λ y h d. ap (g y) (next_other zs y d)) (ap (g (last_row O zs)) (next_last zs) ∙ over _ _ _)
-
-  pub next_gains : (zs : List R) (c : R) (f : ℕ → R)
-      → sum_to O (2 ^ length zs) (λ y. c ⊗ next_at O zs y ⊗ f y)
-      ≡ sum_to O (2 ^ length zs) (λ y. c ⊗ shifted_at O zs y ⊗ f y) ⊕ c ⊗ eq_at O zs (last_row O zs) ⊗ f (last_row O zs)
-  next_gains zs c f = next_sum zs (λ y x. c ⊗ x ⊗ f y) (λ y a b. ap (λ x. x ⊗ f y) (mul_add c a b) ∙ add_mul 𝓡 _ _ _)
-
   pub next_is : (ss ts : List R) → length ss ≡ length ts
       → sum_to O (2 ^ length ss) (λ y. eq_at O ts y ⊗ next_at O ss y) ≡ (eval_next O ss ts).done ⊕ (eval_next O ss ts).omega
   next_is ss ts h =
-      next_sum ss (λ y x. eq_at O ts y ⊗ x) (λ y. mul_add (eq_at O ts y))
+      own_sum 𝓡 (next_beside 𝓡 ss) (λ y x. eq_at O ts y ⊗ x) (λ y. mul_add (eq_at O ts y))
       ∙ ap₂ ◌⊕◌ (done_is ss ts h)
       (mul_comm _ _ ∙ ap (λ n. eq_at O ss (last_row O ss) ⊗ eq_at O ts (2 ^ n - 1)) h ∙ sym (omega_is ss ts h))
 
+  pub cyclic_is : (ss ts : List R) → length ss ≡ length ts
+      → sum_to O (2 ^ length ss) (λ y. eq_at O ts y ⊗ cyclic_at O ss y) ≡ (eval_next O ss ts).done ⊕ (eval_next O ss ts).carry
+  cyclic_is ss ts h =
+      own_sum 𝓡 (cyclic_beside 𝓡 ss) (λ y x. eq_at O ts y ⊗ x) (λ y. mul_add (eq_at O ts y))
+      ∙ ap₂ ◌⊕◌ (done_is ss ts h) (mul_comm _ _ ∙ sym (carry_is ss ts h))
+
+  filled : (zs : List R) (y : ℕ) → cyclic_at O zs y ≡ cond (eqb y 0) (eq_at O zs (last_row O zs)) (shifted_at O zs y)
+  filled zs zero = refl
+  filled zs (suc y) = rw (ne_eqb (suc y) 0 (λ q. omega arith)) refl
+
+  one_row : (cyclic_at O [] 0 ≡ 𝟙) × (next_at O [] 0 ≡ 𝟙)
+  unfolding eq_at
+  one_row = (refl, zero_add 𝓡 𝟙)
+
   pub successor_laws : SuccessorLaws O
-  successor_laws = record { shifted = done_is; next = next_is; carry_is = carry_is; omega_is = omega_is }
+  successor_laws =
+      record {
+        shifted = done_is;
+        next = next_is;
+        cyclic = cyclic_is;
+        carry_is = carry_is;
+        omega_is = omega_is;
+        filled = filled;
+        follows = follows 𝓡;
+        one_row = one_row;
+        two_rows = λ z. (refl, refl);
+      }

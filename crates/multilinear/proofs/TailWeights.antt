@@ -1,4 +1,4 @@
--- Sums of the weights from some row on: by the shifted and the next weights, and of a fold whose words are 0 and then one value. Over any
+-- Sums of the weights from some row on: by the shifted, the next and the cyclic weights, and of a fold whose words are 0 and then one value. Over any
 -- commutative ring. Assumes nothing.
 use mathlib.Core.Path.{◌≡◌, sym, ap, ap₂, ◌∙◌}
 use mathlib.Core.Logic.{◌≢◌}
@@ -15,13 +15,14 @@ use Rattle.algebra.proofs.Reading.{reading, ring}
 use Rattle.algebra.proofs.Sums.{sum_ext, sum_none, sum_split, sum_gain}
 use Rattle.multilinear.specs.declared.Side.{Side}
 use Rattle.multilinear.specs.declared.Weight.{Weight}
-use Rattle.multilinear.specs.declared.Weight.TheVariants.{Plain, Shifted, Next}
+use Rattle.multilinear.specs.declared.Weight.TheVariants.{Plain, Shifted, Next, Cyclic}
 use Rattle.multilinear.specs.Equality.{eq_at}
-use Rattle.multilinear.specs.Successors.{last_row, shifted_at, next_at}
+use Rattle.multilinear.specs.Successors.{last_row, shifted_at}
 use Rattle.multilinear.specs.Folds.{word_of, weight_at, fold_at}
 use Rattle.multilinear.specs.Tails.{tail_at}
 use Rattle.multilinear.proofs.Halves.{sum_scaled}
-use Rattle.multilinear.proofs.Successors.{next_other, next_last}
+use Rattle.multilinear.proofs.EqualityLaws.{equality_laws}
+use Rattle.multilinear.proofs.Own.{Beside, next_beside, cyclic_beside}
 
 module _ {ℓ} {R : Type ℓ} {O : Ops R} (𝓡 : CommRing O) where
   open 𝓡 use {add_assoc, add_neg, add_zero}
@@ -80,20 +81,44 @@ module _ {ℓ} {R : Type ℓ} {O : Ops R} (𝓡 : CommRing O) where
       (ap (λ x. x ⊝ eq_at O zs (last_row O zs)) (sym (shifted_and_last zs m h)) ∙ add_assoc _ _ _
       ∙ ap (λ x. tail_at O Shifted zs m ⊕ x) (add_neg _) ∙ add_zero _)
 
-  -- next is shifted plus eq at the last row, which is one of those from m on
-  pub next : (zs : List R) (m : ℕ) → m < 2 ^ length zs → tail_at O Next zs m ≡ tail_at O Plain zs (m - 1)
+  -- weights that are the shifted ones and eq[N-1] once more at one row: where that is one of those from m on
+  with_own : (weight : Weight) (zs : List R) (own m : ℕ) → Beside O zs (weight_at O weight zs) own → m ≤ own
+      → tail_at O weight zs m ≡ tail_at O Shifted zs m ⊕ eq_at O zs (last_row O zs)
   unfolding tail_at
-  next zs m h =
-      sum_gain 𝓡 (2 ^ length zs - m) (λ j. shifted_at O zs (m + j)) (λ j. next_at O zs (m + j)) (last_row O zs - m) _ (omega (arith, h))
-      (λ y b d. next_other 𝓡 zs (m + y) (other y d))
-      (ap (next_at O zs) last ∙ next_last 𝓡 zs ∙ ap (λ n. shifted_at O zs n ⊕ eq_at O zs (last_row O zs)) (sym last))
-      ∙ shifted_and_last zs m (omega arith)
+  with_own weight zs own m b h =
+      sum_gain 𝓡 (2 ^ length zs - m) (λ j. shifted_at O zs (m + j)) (λ j. weight_at O weight zs (m + j)) (own - m) _
+      (omega (arith, h, b.there)) (λ y c d. b.other (m + y) (other y d))
+      (ap (weight_at O weight zs) here ∙ b.gains ∙ ap (λ n. shifted_at O zs n ⊕ eq_at O zs (last_row O zs)) (sym here))
     where
-      last : m + (last_row O zs - m) ≡ last_row O zs
-      last = omega (arith, h)
+      here : m + (own - m) ≡ own
+      here = omega (arith, h)
 
-      other : (y : ℕ) → y ≢ last_row O zs - m → m + y ≢ last_row O zs
+      other : (y : ℕ) → y ≢ own - m → m + y ≢ own
       other y d e = d (omega arith)
+
+  pub next : (zs : List R) (m : ℕ) → m < 2 ^ length zs → tail_at O Next zs m ≡ tail_at O Plain zs (m - 1)
+  next zs m h = with_own Next zs (last_row O zs) m (next_beside 𝓡 zs) (omega arith) ∙ shifted_and_last zs m (omega arith)
+
+  pub cyclic : (zs : List R) (m : ℕ) → 0 < m → tail_at O Cyclic zs m ≡ tail_at O Shifted zs m
+  unfolding tail_at
+  cyclic zs m h = sum_ext 𝓡 (2 ^ length zs - m) _ _ (λ y b. (cyclic_beside 𝓡 zs).other (m + y) (later y))
+    where
+      later : (y : ℕ) → m + y ≢ 0
+      later y e = omega arith
+
+  -- row 0 is one of all
+  all_plain : (zs : List R) → tail_at O Plain zs 0 ≡ O.one
+  unfolding tail_at
+  all_plain zs =
+      let count : 2 ^ length zs - 0 ≡ 2 ^ length zs = omega arith in
+      ap (λ n. sum_to O n (λ j. eq_at O zs (0 + j))) count
+      ∙ sum_ext 𝓡 (2 ^ length zs) _ (eq_at O zs) (λ y b. ap (eq_at O zs) (row y)) ∙ (equality_laws 𝓡).total zs
+    where
+      row : (y : ℕ) → 0 + y ≡ y
+      row y = omega arith
+
+  pub cyclic_all : (zs : List R) → tail_at O Cyclic zs 0 ≡ O.one
+  cyclic_all zs = with_own Cyclic zs 0 0 (cyclic_beside 𝓡 zs) (omega arith) ∙ shifted_and_last zs 0 (omega arith) ∙ all_plain zs
 
   -- a fold's rows before m are 0, and those from m on have a factor in common
   module _ (side : Side) (weight : Weight) (inner : ℕ) (zs : List R) (scale v : R) (f : ℕ → R) (i m : ℕ)

@@ -21,7 +21,7 @@ use Rattle.multilinear.proofs.Equality.{eq_low, eq_high}
 use Rattle.multilinear.proofs.EqualityLaws.{equality_laws}
 use Rattle.multilinear.proofs.Halves.{sum_scaled}
 use Rattle.multilinear.proofs.Vertex.{low_bits}
-use Rattle.multilinear.proofs.TailWeights.{none, shifted, next, constant}
+use Rattle.multilinear.proofs.TailWeights.{none, shifted, next, cyclic, cyclic_all, constant}
 
 module _ {ℓ} {R : Type ℓ} {O : Ops R} (𝓡 : CommRing O) where
   open O use {add as ◌⊕◌, mul as ◌⊗◌, one as 𝟙}
@@ -70,7 +70,17 @@ module _ {ℓ} {R : Type ℓ} {O : Ops R} (𝓡 : CommRing O) where
       (λ y b. ap (eq_at O (z ∷ zs)) (Nat·add-assoc (2 ^ length zs) m y) ∙ eq_high O z zs (m + y) (omega arith))
 
   pub tail_laws : TailLaws O
-  tail_laws = record { lower = lower; upper = upper; shifted = shifted 𝓡; next = next 𝓡; none = none 𝓡; constant = constant 𝓡 }
+  tail_laws =
+      record {
+        lower = lower;
+        upper = upper;
+        shifted = shifted 𝓡;
+        next = next 𝓡;
+        cyclic = cyclic 𝓡;
+        cyclic_all = cyclic_all 𝓡;
+        none = none 𝓡;
+        constant = constant 𝓡;
+      }
 
   -- a coordinate more in front, and its bit in front of the row's
   tail_step_lem : (b : ℕ) (z : R) (zs : List R) (m : ℕ) → b < 2 → m < 2 ^ length zs

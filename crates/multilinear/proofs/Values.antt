@@ -1,7 +1,7 @@
 -- The laws of values (specs/Laws.antt), over any commutative ring, and a value by its first coordinate, for the code of evaluations.
 -- Assumes nothing.
 use mathlib.Core.Path.{◌≡◌, refl, sym, ap, ap₂, ◌∙◌}
-use Prim.Native.Nat.{ℕ, suc, ◌+◌, ◌*◌, ◌^◌, ◌<◌}
+use Prim.Native.Nat.{ℕ, suc, ◌+◌, ◌*◌, ◌%◌, ◌^◌, ◌<◌}
 use native.Mathlib.Omega.{arith}
 use native.Mathlib.Nat.{two-pow-succ}
 use mathlib.Core.List.{List, [], ◌∷◌, ◌++◌}
@@ -10,18 +10,20 @@ use lib.Pow.{pow-add}
 use borrow.Author.Tests.{eq-eqb, ne_eqb}
 use Rattle.algebra.specs.Ring.{Ops, CommRing, minus}
 use Rattle.algebra.specs.Sum.{sum_to}
-use Rattle.algebra.proofs.Ring.{zero_add, one_mul, zero_mul, mul_zero, add_mul, mul_left_comm}
+use Rattle.algebra.proofs.Ring.{zero_add, one_mul, zero_mul, mul_zero, mul_left_comm}
 use Rattle.algebra.proofs.Reading.{reading, ring}
 use Rattle.algebra.proofs.Sums.{sum_ext, sum_none, sum_add, sum_scale, sum_blocks, sum_gain}
 use Rattle.multilinear.specs.Equality.{eq_at, vertex_point}
-use Rattle.multilinear.specs.Successors.{last_row, shifted_at}
+use Rattle.multilinear.specs.Successors.{last_row}
 use Rattle.multilinear.specs.Beside.{line}
-use Rattle.multilinear.specs.Values.{value_at, next_value_at}
+use Rattle.multilinear.specs.Values.{value_at, next_value_at, cyclic_value_at}
+use Rattle.multilinear.specs.Inner.{own_value_at}
 use Rattle.multilinear.specs.Laws.{ValueLaws}
 use Rattle.multilinear.proofs.Equality.{eq_low, eq_high}
 use Rattle.multilinear.proofs.Halves.{sum_halves, sum_scaled}
 use Rattle.multilinear.proofs.Split.{eq_split}
-use Rattle.multilinear.proofs.Successors.{next_sum}
+use Rattle.multilinear.proofs.Own.{next_beside, cyclic_beside, own_value}
+use Rattle.multilinear.proofs.Rounds.{round_sum}
 use Rattle.multilinear.proofs.Vertex.{vertex, vertex_length}
 
 module _ {ℓ} {R : Type ℓ} {O : Ops R} (𝓡 : CommRing O) where
@@ -146,6 +148,10 @@ module _ {ℓ} {R : Type ℓ} {O : Ops R} (𝓡 : CommRing O) where
       law : (z a b : R) → 𝟘 ⊕ 𝟘 ⊗ a ⊕ ((𝟙 ⊝ z) ⊗ 𝟙 ⊕ z ⊗ 𝟙) ⊗ b ≡ b
       law z a b = reading 𝓡 (z ∷ a ∷ b ∷ []) λ q. simp (ring, q, q.at 0, q.at 1, q.at 2) (q.close tt)
 
+  value_round : (zs : List R) (f : ℕ → R) → cyclic_value_at O zs f ≡ value_at O zs (λ y. f ((y + 1) % 2 ^ length zs))
+  unfolding cyclic_value_at value_at
+  value_round zs f = round_sum 𝓡 zs (λ y x. x ⊗ f y)
+
   pub value_laws : ValueLaws O
   value_laws =
       record {
@@ -155,11 +161,14 @@ module _ {ℓ} {R : Type ℓ} {O : Ops R} (𝓡 : CommRing O) where
         linear = value_linear;
         split = value_split;
         next_of_one = next_of_one;
+        round = value_round;
       }
 
-  -- next is shifted plus eq at the last row
-  pub next_value_is : (zs : List R) (f : ℕ → R)
-      → next_value_at O zs f
-      ≡ sum_to O (2 ^ length zs) (λ y. shifted_at O zs y ⊗ f y) ⊕ eq_at O zs (last_row O zs) ⊗ f (last_row O zs)
+  -- the next and the cyclic value by the row that has eq[N-1]
+  pub next_value_is : (zs : List R) (f : ℕ → R) → next_value_at O zs f ≡ own_value_at O (last_row O zs) zs f
   unfolding next_value_at
-  next_value_is zs f = next_sum 𝓡 zs (λ y x. x ⊗ f y) (λ y a b. add_mul 𝓡 a b (f y))
+  next_value_is zs f = own_value 𝓡 (next_beside 𝓡 zs) f
+
+  pub cyclic_value_is : (zs : List R) (f : ℕ → R) → cyclic_value_at O zs f ≡ own_value_at O 0 zs f
+  unfolding cyclic_value_at
+  cyclic_value_is zs f = own_value 𝓡 (cyclic_beside 𝓡 zs) f

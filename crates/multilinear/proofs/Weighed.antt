@@ -11,13 +11,13 @@ use lib.ListN.{length}
 use borrow.Author.Tests.{lt-ltb, le-ltb}
 use Rattle.algebra.specs.Ring.{Ops, CommRing, minus}
 use Rattle.algebra.specs.Sum.{sum_to}
-use Rattle.algebra.proofs.Ring.{zero_add, zero_mul, mul_zero}
+use Rattle.algebra.proofs.Ring.{zero_add, mul_zero}
 use Rattle.algebra.proofs.Reading.{reading, ring}
 use Rattle.algebra.proofs.Sums.{sum_ext, sum_none}
 use Rattle.multilinear.specs.declared.Side.{Side}
 use Rattle.multilinear.specs.declared.Side.TheVariants.{Prefix, Suffix}
 use Rattle.multilinear.specs.declared.Weight.{Weight}
-use Rattle.multilinear.specs.declared.Weight.TheVariants.{Plain, Shifted, Next}
+use Rattle.multilinear.specs.declared.Weight.TheVariants.{Plain, Shifted, Next, Cyclic}
 use Rattle.multilinear.specs.Equality.{eq_at}
 use Rattle.multilinear.specs.Successors.{last_row}
 use Rattle.multilinear.specs.Folds.{word_of, fold_at}
@@ -36,20 +36,19 @@ module _ {ℓ} {R : Type ℓ} {O : Ops R} (𝓡 : CommRing O) where
   abbrev ◌⊝◌ : R → R → R
   ◌⊝◌ = minus O
 
-  -- no weight of its own
-  none_beside : (x y : R) → x ⊕ 𝟘 ⊗ y ≡ x
-  none_beside x y = ap (λ e. x ⊕ e) (zero_mul 𝓡 y) ∙ add_zero x
-
   -- a fold is the rows that are moved on, and the row with a weight of its own
   pub moved_own : (side : Side) (weight : Weight) (inner : ℕ) (zs : List R) (scale : R) (f : ℕ → R) (i : ℕ)
       → moved_at O side (skip_of weight) inner zs scale f i ⊕ own_at O side weight inner zs scale f i ≡ fold_at O side weight inner zs scale f i
   unfolding own_at
-  moved_own side Plain inner zs scale f i = none_beside _ _ ∙ moved_plain 𝓡 side inner zs scale f i
-  moved_own side Shifted inner zs scale f i = none_beside _ _ ∙ moved_shifted 𝓡 side inner zs scale f i
+  moved_own side Plain inner zs scale f i = add_zero _ ∙ moved_plain 𝓡 side inner zs scale f i
+  moved_own side Shifted inner zs scale f i = add_zero _ ∙ moved_shifted 𝓡 side inner zs scale f i
   moved_own side Next inner zs scale f i =
-      let last = f (word_of side inner (2 ^ length zs) i (last_row O zs)) in
-      ap (λ e. e ⊕ scale ⊗ eq_at O zs (last_row O zs) ⊗ last) (moved_shifted 𝓡 side inner zs scale f i)
+      ap (λ e. e ⊕ scale ⊗ eq_at O zs (last_row O zs) ⊗ f (word_of side inner (2 ^ length zs) i (last_row O zs)))
+      (moved_shifted 𝓡 side inner zs scale f i)
       ∙ sym ((fold_laws 𝓡).next side inner zs scale f i)
+  moved_own side Cyclic inner zs scale f i =
+      ap (λ e. e ⊕ scale ⊗ eq_at O zs (last_row O zs) ⊗ f (word_of side inner (2 ^ length zs) i 0)) (moved_shifted 𝓡 side inner zs scale f i)
+      ∙ sym ((fold_laws 𝓡).cyclic side inner zs scale f i)
 
   -- with one place a row both sides are the same
   same_word : (side : Side) (rows y : ℕ) → word_of side 1 rows 0 y ≡ word_of Suffix 1 rows 0 y

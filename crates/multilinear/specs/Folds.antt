@@ -5,9 +5,9 @@ use Rattle.algebra.specs.Sum.{sum_to}
 use Rattle.multilinear.specs.declared.Side.{Side}
 use Rattle.multilinear.specs.declared.Side.TheVariants.{Prefix, Suffix}
 use Rattle.multilinear.specs.declared.Weight.{Weight}
-use Rattle.multilinear.specs.declared.Weight.TheVariants.{Plain, Shifted, Next}
+use Rattle.multilinear.specs.declared.Weight.TheVariants.{Plain, Shifted, Next, Cyclic}
 use Rattle.multilinear.specs.Equality.{eq_at}
-use Rattle.multilinear.specs.Successors.{shifted_at, next_at}
+use Rattle.multilinear.specs.Successors.{shifted_at, next_at, cyclic_at}
 use Rattle.multilinear.specs.Values.{value_at, next_value_at}
 
 -- prefix place i of row y is word y·inner + i; suffix place i of row y is word i·2^k + y, the rows being 2^k
@@ -24,6 +24,7 @@ module _ {ℓ} {R : Type ℓ} (O : Ops R) where
   weight_at Plain zs y = eq_at O zs y
   weight_at Shifted zs y = shifted_at O zs y
   weight_at Next zs y = next_at O zs y
+  weight_at Cyclic zs y = cyclic_at O zs y
 
   -- place i of a fold with `inner` places: the sum over the 2^k rows y of scale·weight[y]·(word of place i of row y)
   unfoldable pub fold_at : Side → Weight → ℕ → List R → R → (ℕ → R) → ℕ → R

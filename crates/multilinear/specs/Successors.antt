@@ -1,4 +1,4 @@
--- Successors (document 01, "Successors"), over the operations of any ring. Assumes nothing.
+-- Successors (document 01, "Successors"; document 02, request (f)), over the operations of any ring. Assumes nothing.
 use Rattle.std.specs.Prelude.{ℕ, zero, suc, ◌-◌, ◌^◌, cond, List, [], ◌∷◌, length, eqb}
 use Rattle.algebra.specs.Ring.{Ops, minus}
 use Rattle.multilinear.specs.Equality.{eq_at, agreement}
@@ -30,6 +30,11 @@ module _ {ℓ} {R : Type ℓ} (O : Ops R) where
   -- next weight: the shifted one, plus eq[N-1] at row N-1
   abbrev pub next_at : List R → ℕ → R
   next_at zs y = cond (eqb y (last_row zs)) (shifted_at zs y ⊕ eq_at O zs y) (shifted_at zs y)
+
+  -- cyclic weight: eq[N-1] at row 0, eq[y-1] at row y
+  abbrev pub cyclic_at : List R → ℕ → R
+  cyclic_at zs zero = eq_at O zs (last_row zs)
+  cyclic_at zs (suc y) = eq_at O zs y
 
   -- `eval_next`: done becomes (2st - s - t + 1)·done + (1 - s)·t·carry, carry s·(1 - t)·carry, omega s·t·omega
   abbrev pub done_step : R → R → R → R → R

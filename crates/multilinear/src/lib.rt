@@ -26,6 +26,8 @@ pub enum Weight {
     Shifted = 1,
     // The shifted one, and the last row's own once more.
     Next = 2,
+    // The shifted one, and at the first row eq of the last: the last row is followed by the first.
+    Cyclic = 3,
 }
 
 // A byte that stands for no value.
@@ -72,6 +74,7 @@ impl TryFrom<u8> for Weight {
             0 => Ok(Weight::Plain),
             1 => Ok(Weight::Shifted),
             2 => Ok(Weight::Next),
+            3 => Ok(Weight::Cyclic),
             _ => Err(UnknownByte(byte)),
         }
     }

@@ -2,11 +2,12 @@
 use mathlib.Core.Path.{◌≡◌, sym, ap, subst}
 use Prim.Native.Nat.{ℕ, ◌-◌, ◌^◌, ◌≤◌, ◌<◌}
 use native.Mathlib.Omega.{arith}
+use mathlib.Core.Logic.{◌⊎◌, inl, inr}
 use mathlib.Core.List.{List}
 use lib.ListN.{length}
 use Rattle.algebra.specs.Ring.{minus}
 use Rattle.multilinear.specs.declared.Weight.{Weight}
-use Rattle.multilinear.specs.declared.Weight.TheVariants.{Plain, Shifted, Next}
+use Rattle.multilinear.specs.declared.Weight.TheVariants.{Plain, Shifted, Next, Cyclic}
 use Rattle.multilinear.specs.Equality.{eq_at}
 use Rattle.multilinear.specs.Tails.{tail_at}
 use Rattle.multilinear.proofs.Tails.{tail_laws}
@@ -32,13 +33,19 @@ module _ (words : List ℕ) (k : ℕ) where
     pub plain : weight ≡ Plain → Holds r (tail_at field Plain zs row) → Holds r (tail_at field weight zs row)
     plain e h = rw e h
 
-    pub shifted : weight ≡ Shifted → row < 2 ^ k → {n last : ℕ} → n ≡ row - 1 → last ≡ 2 ^ k - 1 → {s t : Element}
+    -- from a row on that is not the first the cyclic weights are the shifted ones
+    as_shifted : (weight ≡ Shifted) ⊎ (weight ≡ Cyclic) → 0 < row → Holds r (tail_at field Shifted zs row)
+        → Holds r (tail_at field weight zs row)
+    as_shifted (inl e) h d = rw e d
+    as_shifted (inr e) h d = rw (e, (tail_laws field_ring).cyclic zs row h) d
+
+    pub shifted : (weight ≡ Shifted) ⊎ (weight ≡ Cyclic) → 0 < row → row < 2 ^ k → {n last : ℕ} → n ≡ row - 1 → last ≡ 2 ^ k - 1 → {s t : Element}
         → Holds s (tail_at field Plain zs n) → Holds t (eq_at field zs last) → Holds r (minus field (from_words s) (from_words t))
         → Holds r (tail_at field weight zs row)
-    shifted e h q l hs ht d =
+    shifted e some h q l hs ht d =
         let law = (tail_laws field_ring).shifted zs row (rw all_rows (omega arith)) in
         let m = ap (λ n. n - 1) all_rows in
-        rw (e, law, m, sym l, sym q, sym (read_as _ hs), sym (read_as _ ht)) d
+        as_shifted e some (rw (law, m, sym l, sym q, sym (read_as _ hs), sym (read_as _ ht)) d)
 
     pub next : weight ≡ Next → row < 2 ^ k → {n : ℕ} → n ≡ row - 1 → Holds r (tail_at field Plain zs n)
         → Holds r (tail_at field weight zs row)

@@ -101,9 +101,10 @@ fn spread(last: &[u32], from: usize, to: usize, weight: Element, out: &mut [u32]
     }
 }
 
-// weight[row] + weight[row + 1] + .. + weight[2^k - 1].
+// weight[row] + weight[row + 1] + .. + weight[2^k - 1], from a row on that is not the first: cyclic weights are there the shifted ones.
 #[tactic(auto, using(crate::proofs::Weights::none_left))]
 fn tail(point: Point, weight: Weight, row: usize) -> Element
+    requires { 0 < row }
     ensures { Holds result (tail_at field weight (coordinates point.entry) row) }
 {
     if table::rows(point.count) <= row {
@@ -111,10 +112,10 @@ fn tail(point: Point, weight: Weight, row: usize) -> Element
     }
     match weight {
         Weight::Plain => equality::from_row(point, row),
-        Weight::Shifted => {
-            let sum = equality::from_row(point, row.saturating_sub(1));
+        Weight::Shifted | Weight::Cyclic => {
+            let sum = equality::from_row(point, row - 1);
             sum.sub(equality::at_row(point, table::rows(point.count) - 1))
         }
-        Weight::Next => equality::from_row(point, row.saturating_sub(1)),
+        Weight::Next => equality::from_row(point, row - 1),
     }
 }

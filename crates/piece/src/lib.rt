@@ -1,10 +1,10 @@
 // A piece of a table, added to its places as a fold's plan has them. The piece's words are the table's from word `taken` on.
 //
 //     a place gains   scale eq[y - skip] word of row y, over the rows y from `skip` on      `moved`
-//              and    the own row's weight times its word, where the weight has one         `own`
+//              and    scale eq of the last row times the own row's word, where it has one   `own`
 #![tactic(auto)]
 
-mod groups;
+mod few_rows;
 mod own;
 mod sections;
 
@@ -16,7 +16,7 @@ ghost use Rattle.plan.specs.Plan.{width, capacity, coordinates_of, fold_of, gain
 ghost use Rattle.plan.specs.Sound.{Sound, Takes, Fills};
 
 use moved::Piece;
-use multilinear::{Side, Weight};
+use multilinear::Side;
 use plan::Plan;
 pub use sections::HELD;
 
@@ -54,26 +54,27 @@ fn piece_of<'a>(plan: &'a Plan, taken: usize, words: &'a [u32]) -> Piece<'a>
     }
 }
 
-// out becomes the fold of the whole table. On the suffix side places of two words or four are set, where no row has a weight of its own;
-// else it goes section by section, so that each is filled while it is in the cache.
+// out becomes the fold of the whole table. Two rows or four go by their weights at once; else all goes at once on the prefix side, and
+// section by section on the suffix side, so that each is filled while it is in the cache.
 pub fn fold(plan: Plan, table: &[u32], out: &mut [u32])
     requires { Fills plan table.now out.old }
     ensures { out.new ≡ fold_of plan table.now }
 {
-    match plan.side {
-        Side::Prefix => fold_whole(plan, table, out),
-        Side::Suffix => match plan.weight {
-            Weight::Plain | Weight::Shifted => groups::by_groups(plan, table, out),
-            Weight::Next => sections::by_sections(plan, table, out),
+    match plan.k {
+        1 => few_rows::by_weights::<2>(&plan, table, out),
+        2 => few_rows::by_weights::<4>(&plan, table, out),
+        _ => match plan.side {
+            Side::Prefix => fold_whole(&plan, table, out),
+            Side::Suffix => sections::by_sections(&plan, table, out),
         },
     }
 }
 
 // All places at once.
-fn fold_whole(plan: Plan, table: &[u32], out: &mut [u32])
-    requires { Fills plan table.now out.old }
-    ensures { out.new ≡ fold_of plan table.now }
+fn fold_whole(plan: &Plan, table: &[u32], out: &mut [u32])
+    requires { Fills plan.now table.now out.old }
+    ensures { out.new ≡ fold_of plan.now table.now }
 {
     table::clear(out);
-    add(&plan, 0, table, out);
+    add(plan, 0, table, out);
 }

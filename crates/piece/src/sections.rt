@@ -10,9 +10,9 @@ use plan::Plan;
 pub const HELD: usize = 10;
 
 // out becomes the fold of the whole table.
-pub fn by_sections(plan: Plan, table: &[u32], out: &mut [u32])
-    requires { Fills plan table.now out.old × (plan.side ≡ Suffix) }
-    ensures { out.new ≡ fold_of plan table.now }
+pub fn by_sections(plan: &Plan, table: &[u32], out: &mut [u32])
+    requires { Fills plan.now table.now out.old × (plan.now.side ≡ Suffix) }
+    ensures { out.new ≡ fold_of plan.now table.now }
 {
     let held = usize::min(plan.n - plan.k, HELD);
     let places = table::rows(held);
@@ -23,6 +23,6 @@ pub fn by_sections(plan: Plan, table: &[u32], out: &mut [u32])
         let b = a + words;
         let c = 4 * (places * j);
         let d = c + 4 * places;
-        crate::fold_whole(plan.section(held), &table[a..b], &mut out[c..d]);
+        crate::fold_whole(&plan.section(held), &table[a..b], &mut out[c..d]);
     }
 }

@@ -1,7 +1,7 @@
 -- What `succeed` makes of n weights, store by store. Assumes nothing.
 use mathlib.Core.Path.{◌≡◌, refl, ap, ◌∙◌}
 use Prim.Native.Nat.{ℕ, zero, suc, ◌-◌, ◌<◌}
-use native.Mathlib.Decide.{dec_lt}
+use native.Mathlib.Decide.{ℕ_discrete}
 use native.Mathlib.Omega.{arith}
 use mathlib.Core.List.{List}
 use borrow.Author.Tests.{eq-eqb, ne_eqb}
@@ -15,7 +15,7 @@ use Rattle.poly.specs.Inner.{Weights, previous_at, successor_at}
 use Rattle.poly.proofs.Shifting.{Shifted}
 use Rattle.table.proofs.Laws.{table_whole}
 
-module _ (n : ℕ) (ws : List ℕ) (t : Weights n ws) where
+module _ (n : ℕ) (ws : List ℕ) (t : Weights n ws) (own : ℕ) (there : own < n) where
   abbrev f : ℕ → Ext
   f = element_at ws
 
@@ -26,27 +26,26 @@ module _ (n : ℕ) (ws : List ℕ) (t : Weights n ws) where
     previous (suc y) h =
         get_put_other w 0 e (suc y) (λ q. omega arith) ∙ s.moved y h ∙ (holds_at ws t.below y refl).words
 
-    pub kept : {w₂ : List ℕ} {k : Element} → w₂ ≡ put_at w 0 e → k ≡ get_at w₂ (n - 1) → Holds k (previous_at f (n - 1))
-    kept a b = holds _ (b ∙ ap (λ l. get_at l (n - 1)) a ∙ previous (n - 1) (omega (arith, t.some)))
+    pub kept : {w₂ : List ℕ} {k : Element} → w₂ ≡ put_at w 0 e → k ≡ get_at w₂ own → Holds k (previous_at f own)
+    kept a b = holds _ (b ∙ ap (λ l. get_at l own) a ∙ previous own there)
 
     -- after the last row's weight is added
-    module _ (g : Element) (a : Holds g (field.add (previous_at f (n - 1)) (f (n - 1)))) where
+    module _ (g : Element) (a : Holds g (field.add (previous_at f own) (f (n - 1)))) where
       abbrev w₁ : List ℕ
       w₁ = put_at w 0 e
 
-      rows : (y : ℕ) → y < n → get_at (put_at w₁ (n - 1) g) y ≡ to_words (successor_at n f y)
-      rows y h = go (dec_lt y (n - 1))
+      rows : (y : ℕ) → y < n → get_at (put_at w₁ own g) y ≡ to_words (successor_at own n f y)
+      rows y h = go (ℕ_discrete y own)
         where
-          go : Dec (y < n - 1) → get_at (put_at w₁ (n - 1) g) y ≡ to_words (successor_at n f y)
-          go (yes l) = rw (ne_eqb y (n - 1) (λ q. omega arith)) (get_put_other w₁ (n - 1) g y (λ q. omega arith) ∙ previous y h)
-          go (no l) =
-              let q : y ≡ n - 1 = omega arith in
-              rw (q, eq-eqb (n - 1) (n - 1) refl)
-              (get_put_same w₁ (n - 1) g (omega (arith, length_put w 0 e, s.len, t.count, t.some)) (rw a.words (size _)) ∙ a.words)
+          go : Dec (y ≡ own) → get_at (put_at w₁ own g) y ≡ to_words (successor_at own n f y)
+          go (yes q) =
+              rw (q, eq-eqb own own refl)
+              (get_put_same w₁ own g (omega (arith, length_put w 0 e, s.len, t.count, there)) (rw a.words (size _)) ∙ a.words)
+          go (no d) = rw (ne_eqb y own d) (get_put_other w₁ own g y d ∙ previous y h)
 
-      table : put_at w₁ (n - 1) g ≡ table_words n (successor_at n f)
-      table = table_whole n (successor_at n f) _ (length_put w₁ (n - 1) g ∙ length_put w 0 e ∙ s.len ∙ t.count) rows
+      table : put_at w₁ own g ≡ table_words n (successor_at own n f)
+      table = table_whole n (successor_at own n f) _ (length_put w₁ own g ∙ length_put w 0 e ∙ s.len ∙ t.count) rows
 
-    pub succeeded : (l k g : Element) {w₂ w₃ : List ℕ} → l ≡ get_at ws (n - 1) → w₂ ≡ put_at w 0 e → k ≡ get_at w₂ (n - 1)
-        → Holds g (field.add (from_words k) (from_words l)) → w₃ ≡ put_at w₂ (n - 1) g → w₃ ≡ table_words n (successor_at n f)
+    pub succeeded : (l k g : Element) {w₂ w₃ : List ℕ} → l ≡ get_at ws (n - 1) → w₂ ≡ put_at w 0 e → k ≡ get_at w₂ own
+        → Holds g (field.add (from_words k) (from_words l)) → w₃ ≡ put_at w₂ own g → w₃ ≡ table_words n (successor_at own n f)
     succeeded l k g a b d h v = rw (v, b) (table g (rw (read_as _ (kept b d), read_as _ (holds_at ws t.below (n - 1) a)) at h))

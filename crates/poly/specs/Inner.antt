@@ -11,13 +11,13 @@ pub record Weights (n : ℕ) (ws : List ℕ) : Type 0 where
   pub count : length ws ≡ 4 * n
   pub below : unreduced p ws ≡ false
 
--- of the weights f of n rows: 0 at row 0, f (y - 1) at row y, and the last row's own once more
+-- of the weights f of n rows: 0 at row 0, f (y - 1) at row y, and the last row's once more at row `own`
 abbrev pub previous_at : (ℕ → Ext) → ℕ → Ext
 previous_at f zero = field.zero
 previous_at f (suc y) = f y
 
-abbrev pub successor_at : ℕ → (ℕ → Ext) → ℕ → Ext
-successor_at n f y = cond (eqb y (n - 1)) (field.add (previous_at f y) (f y)) (previous_at f y)
+abbrev pub successor_at : ℕ → ℕ → (ℕ → Ext) → ℕ → Ext
+successor_at own n f y = cond (eqb y own) (field.add (previous_at f y) (f (n - 1))) (previous_at f y)
 
 -- the tests of an evaluation of a table of `width` words an entry
 abbrev pub table_tests : ℕ → List ℕ → List ℕ → List Test

@@ -1,7 +1,7 @@
--- Values of a table at a point (document 01, "Values"; "Refused calls": Evaluations). Assumes nothing.
+-- Values of a table at a point (document 01, "Values"; "Refused calls": Evaluations; document 02, request (f)). Assumes nothing.
 use Rattle.std.specs.Prelude.{ℕ, not, List, [], ◌∷◌, eqb, length, get_or}
 use Rattle.algebra.specs.Words.{unreduced}
-use Rattle.multilinear.specs.Values.{value_at, next_value_at}
+use Rattle.multilinear.specs.Values.{value_at, next_value_at, cyclic_value_at}
 use Rattle.field.specs.Field.{p, field, base}
 use Rattle.table.specs.Table.{entries, element_at, point_of}
 use Rattle.table.specs.Refusals.{Outcome, Test, ◌gives◌, verdict, evaluated, splits, not_power, variables, too_many_variables, too_many}
@@ -35,3 +35,8 @@ eval_ext_answer table point = evaluated (verdict (ext_tests table point)) (value
 unfoldable pub eval_next_base_answer : List ℕ → List ℕ → Outcome
 eval_next_base_answer table point =
     evaluated (verdict (base_tests table point)) (next_value_at field (point_of point) (λ y. base (get_or table y 0)))
+
+-- `Poly::eval_cyclic_base`, its fellow: the sum of cyclic[y]·f[y]
+unfoldable pub eval_cyclic_base_answer : List ℕ → List ℕ → Outcome
+eval_cyclic_base_answer table point =
+    evaluated (verdict (base_tests table point)) (cyclic_value_at field (point_of point) (λ y. base (get_or table y 0)))

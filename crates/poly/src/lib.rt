@@ -3,11 +3,14 @@
 
 pub mod value;
 
-ghost use Rattle.std.specs.Prelude.{◌≡◌};
-ghost use Rattle.poly.specs.Poly.{new_answer, new_out, next_out};
+ghost use Rattle.std.specs.Prelude.{◌≡◌, ◌*◌, ◌^◌, ◌<◌, length};
+ghost use Rattle.multilinear.specs.Equality.{eq_at};
+ghost use Rattle.field.specs.Field.{field};
+ghost use Rattle.poly.specs.Poly.{new_answer, new_out, next_out, cyclic_out};
 ghost use Rattle.table.specs.Table.{table_words, element_at, entries};
 ghost use Rattle.table.specs.Refusals.{answer};
 ghost use Rattle.point.specs.Point.{table_answer};
+ghost use Rattle.point.specs.Points.{coordinates};
 ghost use Rattle.poly.specs.Inner.{Weights, successor_at};
 
 use field::Element;
@@ -29,15 +32,27 @@ pub fn new_from_point(point: &[u32], scale: Element, out: &mut [u32]) -> Result<
 // out becomes the table of the next weights: the equality table, each weight a row further, and the last row's once more.
 //
 //     [ eq0, eq1, .., eq_{N-1} ]  ->  [ 0, eq0, .., eq_{N-2} + eq_{N-1} ]
-#[tactic(auto, using(table::proofs::Outcomes::outcomes), unfolding(crate::specs::Poly::next_out))]
+#[tactic(auto, using(table::proofs::Outcomes::outcomes), unfolding(crate::specs::Poly::weights_out))]
 pub fn new_next_from_point(point: &[u32], out: &mut [u32]) -> Result<(), Refusal>
     ensures result_value { answer result ≡ table_answer point.now out.old }
     ensures out_after { out.new ≡ next_out point.now out.old }
 {
     equality::test_table(point, out)?;
-    let point = Point::of(point);
-    equality::fill(out, point, BitOrder::Msb, Element::one());
-    succeed(out);
+    let last = out.len() / 4 - 1;
+    successors(out, Point::of(point), last);
+    Ok(())
+}
+
+// out becomes the table of the cyclic weights, the last row being followed by the first.
+//
+//     [ eq0, eq1, .., eq_{N-1} ]  ->  [ eq_{N-1}, eq0, .., eq_{N-2} ]
+#[tactic(auto, using(table::proofs::Outcomes::outcomes), unfolding(crate::specs::Poly::weights_out))]
+pub fn new_cyclic_from_point(point: &[u32], out: &mut [u32]) -> Result<(), Refusal>
+    ensures result_value { answer result ≡ table_answer point.now out.old }
+    ensures out_after { out.new ≡ cyclic_out point.now out.old }
+{
+    equality::test_table(point, out)?;
+    successors(out, Point::of(point), 0);
     Ok(())
 }
 
@@ -49,16 +64,28 @@ fn test_scaled(point: &[u32], scale: Element, out: &[u32]) -> Result<(), Refusal
     table::refuse_if(field::unreduced(&scale.c), Refusal::Unreduced)
 }
 
-// The weights of out, each a row further, and the last once more.
-fn succeed(out: &mut [u32])
-    requires { Weights (entries out.old) out.old }
+// out becomes the table of a point's eq, each a row further, and the last row's once more at row `own`.
+fn successors(out: &mut [u32], point: Point, own: usize)
+    requires rows { length out.old ≡ 4 * 2 ^ point.count }
+    requires own { own < 2 ^ point.count }
     ensures { out.new
-        ≡ table_words (entries out.old) (successor_at (entries out.old) (element_at out.old)) }
+        ≡ table_words (2 ^ point.entry.count) (successor_at own (2 ^ point.entry.count) (eq_at field (coordinates point.entry))) }
+{
+    equality::fill(out, point, BitOrder::Msb, Element::one());
+    succeed(out, own);
+}
+
+// The weights of out, each a row further, and the last one once more at row `own`.
+fn succeed(out: &mut [u32], own: usize)
+    requires weights { Weights (entries out.old) out.old }
+    requires own { own < entries out.old }
+    ensures { out.new
+        ≡ table_words (entries out.old) (successor_at own (entries out.old) (element_at out.old)) }
 {
     let n = out.len() / 4;
     let last = table::get(out, n - 1);
     out.copy_within(0..4 * (n - 1), 4);
     table::put(out, 0, Element::zero());
-    let kept = table::get(out, n - 1);
-    table::put(out, n - 1, kept.add(last));
+    let kept = table::get(out, own);
+    table::put(out, own, kept.add(last));
 }

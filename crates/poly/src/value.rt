@@ -1,10 +1,11 @@
 // Values of a table at a point.
-ghost use Rattle.std.specs.Prelude.{◌≡◌, ◌<◌, get_or};
-ghost use Rattle.multilinear.specs.Values.{next_value_at};
+ghost use Rattle.std.specs.Prelude.{◌≡◌, ◌<◌, length, get_or};
+ghost use Rattle.multilinear.specs.Inner.{own_value_at};
 ghost use Rattle.field.specs.Field.{field, base, Holds};
 ghost use Rattle.table.specs.Refusals.{answer, outcome, verdict};
 ghost use Rattle.point.specs.Points.{coordinates};
-ghost use Rattle.poly.specs.Values.{value_tests, eval_base_answer, eval_ext_answer, eval_next_base_answer};
+ghost use Rattle.poly.specs.Values.{value_tests, eval_base_answer, eval_ext_answer};
+ghost use Rattle.poly.specs.Values.{eval_next_base_answer, eval_cyclic_base_answer};
 ghost use Rattle.weigh.specs.Entries.{WholeTable};
 ghost use Rattle.poly.specs.Inner.{table_tests};
 
@@ -37,7 +38,16 @@ pub fn eval_next_base(table: &[u32], point: &[u32]) -> Result<Element, Refusal>
     ensures { outcome result ≡ eval_next_base_answer table.now point.now }
 {
     test_table::<1>(table, point)?;
-    Ok(next_value(table, Point::of(point)))
+    Ok(successor_value(table, Point::of(point), table.len() - 1))
+}
+
+// The sum of cyclic[y] table[y].
+#[tactic(auto, using(crate::proofs::Widths::words_tested), unfolding(crate::specs::Values::eval_cyclic_base_answer))]
+pub fn eval_cyclic_base(table: &[u32], point: &[u32]) -> Result<Element, Refusal>
+    ensures { outcome result ≡ eval_cyclic_base_answer table.now point.now }
+{
+    test_table::<1>(table, point)?;
+    Ok(successor_value(table, Point::of(point), 0))
 }
 
 // The tests of an evaluation; an entry of the table has WIDTH words.
@@ -62,13 +72,13 @@ fn test_value(count: usize, table: &[u32], point: &[u32]) -> Result<(), Refusal>
     table::refuse_if(field::unreduced(point), Refusal::Unreduced)
 }
 
-// Each row's weight goes to the row after it; the last row has its own once more.
-fn next_value(table: &[u32], point: Point) -> Element
-    requires { WholeTable 1 point.count table.now }
+// Each row's weight goes to the row after it, and the last row's to row `own`.
+fn successor_value(table: &[u32], point: Point, own: usize) -> Element
+    requires whole { WholeTable 1 point.count table.now }
+    requires own { own < length table.now }
     ensures { Holds result
-        (next_value_at field (coordinates point.entry) (λ y. base (get_or table.now y 0))) }
+        (own_value_at field own (coordinates point.entry) (λ y. base (get_or table.now y 0))) }
 {
-    let last = table.len() - 1;
-    let own = equality::at_row(point, last).mul_base(table[last]);
-    weigh::weigh(&table[1..], point, Element::one()).add(own)
+    let gained = equality::at_row(point, table.len() - 1).mul_base(table[own]);
+    weigh::weigh(&table[1..], point, Element::one()).add(gained)
 }

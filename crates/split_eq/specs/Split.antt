@@ -1,4 +1,4 @@
--- Split folds, values with a scale, and the weights (document 01, "Split folds"). What the calls are refused for is in
+-- Split folds, values with a scale, and the weights (document 01, "Split folds"; document 02, request (f)). What the calls are refused for is in
 -- crates/split_tests/specs/SplitTests.antt. Assumes nothing.
 use Rattle.std.specs.Prelude.{◌≡◌, ℕ, ◌^◌, List, Result, length, get_or}
 use Rattle.multilinear.specs.declared.Side.{Side}
@@ -32,7 +32,7 @@ fold_work table point scale work out = leaves (fold_answer table point scale wor
 abbrev pub fold_plan : Side → Weight → List ℕ → List ℕ → Element → Plan
 fold_plan side weight table point scale = plan_of (variables (length table)) (entries point) 1 side weight scale point
 
--- the fold, place by place, on the prefix or the suffix side, by plain or shifted weights
+-- the fold, place by place, on the prefix or the suffix side, by plain, shifted or cyclic weights
 abbrev pub folded : Side → Weight → List ℕ → List ℕ → Element → List ℕ
 folded side weight table point scale = fold_of (fold_plan side weight table point scale) table
 

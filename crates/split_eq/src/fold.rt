@@ -3,9 +3,9 @@
 //     prefix    out[i] = scale sum_y weight[y] table[y inner + i]      a row is `inner` words
 //     suffix    out[i] = scale sum_y weight[y] table[i 2^k + y]        a place has 2^k words
 //
-// A plain weight is eq[y], a shifted one eq[y - 1], and 0 at the first row.
+// A plain weight is eq[y], a shifted one eq[y - 1], and 0 at the first row; a cyclic one is the shifted one, and eq of the last row at the first.
 ghost use Rattle.multilinear.specs.declared.Side.TheVariants.{Prefix, Suffix};
-ghost use Rattle.multilinear.specs.declared.Weight.TheVariants.{Plain, Shifted};
+ghost use Rattle.multilinear.specs.declared.Weight.TheVariants.{Plain, Shifted, Cyclic};
 ghost use Rattle.split_eq.specs.Split.{Compressed};
 
 use field::Element;
@@ -87,7 +87,43 @@ pub fn compress_suffix_shifted(
     compress(kind, table, point, scale, work, out)
 }
 
-// What the four folds differ in.
+// out[i] = scale sum_y cyclic[y] table[y inner + i]: each row's eq goes to the row after it, and the last row's to the first.
+pub fn compress_prefix_cyclic(
+    table: &[u32],
+    point: &[u32],
+    scale: Element,
+    work: &mut [u32],
+    out: &mut [u32],
+) -> Result<(), Refusal>
+    ensures { Compressed Prefix Cyclic table.now point.now scale work.old out.old
+        result work.new out.new }
+{
+    let kind = Kind {
+        side: Side::Prefix,
+        weight: Weight::Cyclic,
+    };
+    compress(kind, table, point, scale, work, out)
+}
+
+// out[i] = scale sum_y cyclic[y] table[i 2^k + y].
+pub fn compress_suffix_cyclic(
+    table: &[u32],
+    point: &[u32],
+    scale: Element,
+    work: &mut [u32],
+    out: &mut [u32],
+) -> Result<(), Refusal>
+    ensures { Compressed Suffix Cyclic table.now point.now scale work.old out.old
+        result work.new out.new }
+{
+    let kind = Kind {
+        side: Side::Suffix,
+        weight: Weight::Cyclic,
+    };
+    compress(kind, table, point, scale, work, out)
+}
+
+// What the six folds differ in.
 #[derive(Clone, Copy)]
 struct Kind {
     side: Side,

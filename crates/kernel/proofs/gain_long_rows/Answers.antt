@@ -12,7 +12,7 @@ lowered-sum-requires g c = (
   omega (arith, c.requires.reduced.few),
   (
     raised_weights c.requires.reduced.few (omega arith) c.raised-raised.ensures,
-    row_there _ c.requires.rows c.loop-y-test.true,
+    row_there _ c.requires.rows c.loop-y-test.true (omega arith),
   ),
 )
 

@@ -7,7 +7,7 @@ use Rattle.kernel.proofs.gain_short_rows.Goals as goal
 
 pub step-sum-requires : goal.step-sum-requires
 step-sum-requires g c =
-    (omega (arith, c.requires.reduced.few), (c.requires.reduced, row_there _ c.requires.rows c.loop-y-test.true))
+    (omega (arith, c.requires.reduced.few), (c.requires.reduced, row_there _ c.requires.rows c.loop-y-test.true (omega arith)))
 
 pub loop-y-preserved : goal.loop-y-preserved
 loop-y-preserved g c =

@@ -9,5 +9,5 @@ add-requires c = begins c.requires c.clear.ensures
 
 pub returns : goal.returns
 returns c =
-    whole c.args.plan c.args.table.now c.args.out.now c.requires.room
-    (c.add.ensures ∙ ap (gained_by c.args.plan 0 c.args.table.now) c.clear.ensures)
+    whole c.args.plan.now c.args.table.now c.args.out.now c.requires.room
+    (c.add.ensures ∙ ap (gained_by c.args.plan.now 0 c.args.table.now) c.clear.ensures)

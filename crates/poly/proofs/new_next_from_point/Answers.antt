@@ -1,31 +1,47 @@
 -- What the tests say of the point and of out, and the weights, each a row further. Assumes nothing.
+use Prim.Native.Nat.{◌*◌, ◌^◌}
+use native.Mathlib.Omega.{arith}
+use mathlib.Core.Path.{◌≡◌}
+use lib.ListN.{length}
+use lib.Pow.{pow_pos}
+use Rattle.field.proofs.Laws.{field_ring}
+use Rattle.multilinear.specs.declared.Weight.TheVariants.{Next}
+use Rattle.multilinear.proofs.Own.{next_beside}
+use Rattle.table.specs.Table.{entries}
 use Rattle.table.proofs.Laws.{elements_length}
 use Rattle.table.proofs.Outcomes.{accepted_leaves}
 use Rattle.table.proofs.Says.{accepted}
 use Rattle.point.specs.Point.{table_answer}
 use Rattle.point.proofs.Coordinates.{point-says}
-use Rattle.poly.specs.Poly.{next_out}
-use Rattle.poly.proofs.Next.{rows, weights, next_table}
+use Rattle.poly.specs.Poly.{weights_out}
+use Rattle.poly.proofs.Next.{last_is, weights_table}
 use Rattle.poly.proofs.new_next_from_point.Goals as goal
 
-pub of-point-requires : goal.of-point-requires
+pub overflow_sub-last : goal.overflow_sub-last
 unfolding table_answer
-of-point-requires c =
+overflow_sub-last c =
+    let h = accepted _ tt c.in_ok-test_table.ensures in
+    let l : length c.args.out.now ≡ 4 * 2 ^ entries c.args.point.now = search point-says in
+    omega (arith, l, pow_pos (entries c.args.point.now))
+
+pub of-requires : goal.of-requires
+unfolding table_answer
+of-requires c =
     let h = accepted _ tt c.in_ok-test_table.ensures in
     search point-says
 
-pub fill-requires : goal.fill-requires
+pub successors-requires : goal.successors-requires
 unfolding table_answer
-fill-requires c =
+successors-requires c =
     let h = accepted _ tt c.in_ok-test_table.ensures in
-    (c.one.ensures.below, rw (c.of-point.ensures.count) (search point-says))
-
-pub succeed-requires : goal.succeed-requires
-succeed-requires c = weights _ _ c.fill.ensures
+    let l : length c.args.out.now ≡ 4 * 2 ^ entries c.args.point.now = search point-says in
+    rw c.of.ensures.count
+    (record { rows = l; own = omega (arith, l, pow_pos (entries c.args.point.now)) })
 
 pub returns-clause-out_after : goal.returns-clause-out_after
-unfolding next_out
+unfolding weights_out table_answer
 returns-clause-out_after c =
-    rw (accepted_leaves _ c.in_ok-test_table.ensures, ← c.of-point.ensures.count, ← c.of-point.ensures.words)
-    (next_table _ _ _ _ _ (elements_length _ _ _) c.one.ensures c.fill.ensures (rows _ _ c.fill.ensures)
-    c.succeed.ensures)
+    let h = accepted _ tt c.in_ok-test_table.ensures in
+    let l : length c.args.out.now ≡ 4 * 2 ^ entries c.args.point.now = search point-says in
+    rw (accepted_leaves _ c.in_ok-test_table.ensures, ← c.of.ensures.count, ← c.of.ensures.words)
+    (weights_table Next _ _ _ _ (elements_length _ _ _) (next_beside field_ring _) (last_is _ _ _ c.of.ensures.count l) c.successors.ensures)

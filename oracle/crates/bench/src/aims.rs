@@ -3,7 +3,7 @@
 use std::ptr;
 
 use crate::bench::Row;
-use crate::side::Who::{self, Apart, C, Fold, Ours, Rust, Start};
+use crate::side::Who::{self, Apart, C, Fold, Ours, Rust, Shifted, Start};
 
 /// Rows of these names and sizes take at most this part of a side's time.
 pub struct Aim {
@@ -40,7 +40,7 @@ pub const AIMS: [Aim; 7] = [
 ];
 
 /// For every row.
-pub const EVERYWHERE: [(Who, f64); 3] = [(C, 1.2), (Rust, 1.0), (Apart, 1.05)];
+pub const EVERYWHERE: [(Who, f64); 4] = [(C, 1.2), (Rust, 1.0), (Apart, 1.05), (Shifted, 1.05)];
 
 /// The most seconds of foldframes on a full table, and the most that its fold is
 /// of it.

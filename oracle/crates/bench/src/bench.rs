@@ -39,7 +39,14 @@ impl Row {
 
     /// What stands beside ours and is not the Rust.
     pub fn beside(&self) -> Option<Who> {
-        let others = [Who::C, Who::Fold, Who::Words, Who::Start];
+        let others = [
+            Who::C,
+            Who::Fold,
+            Who::Words,
+            Who::Start,
+            Who::Shifted,
+            Who::Next,
+        ];
         others.into_iter().find(|&who| self.time(who).is_some())
     }
 }

@@ -60,6 +60,11 @@ impl Clock {
             *left = words();
         }
     }
+
+    /// What the call left becomes what this makes of it.
+    pub fn shows(&mut self, shown: impl FnOnce(Vec<u32>) -> Vec<u32>) {
+        self.left = self.left.take().map(shown);
+    }
 }
 
 /// Valgrind counts the instructions of this function and of all that it calls.

@@ -36,7 +36,7 @@ pub const SUFFIX_SHIFTED: (&str, Fold, RustFold) = (
 /// point, scale, given scale, work, out.
 type Accumulate = fn(&[u32], [u32; 4], [u32; 4], &mut [u32], &mut [u32]) -> u32;
 
-const COORDINATES: [usize; 4] = [1, 10, 19, 20];
+pub const COORDINATES: [usize; 4] = [1, 10, 19, 20];
 
 pub fn run(bench: &mut Bench, input: &Input) {
     let n = MOST;

@@ -14,6 +14,7 @@ mod bench;
 mod clock;
 mod columns;
 mod counts;
+mod cyclic;
 mod document;
 mod feeds;
 mod folds;
@@ -61,6 +62,7 @@ fn main() {
     values::run(&mut bench, &input);
     folds::run(&mut bench, &input);
     sessions::run(&mut bench, &input);
+    cyclic::run(&mut bench, &input);
     columns::run(&mut bench, &input);
     wards::run(&mut bench, &input);
     frames::run(&mut bench, &input);

@@ -20,6 +20,10 @@ pub const FED: [(usize, usize); 3] = [(MOST, 20), (MOST, 10), (MOST, 0)];
 /// One read of a place in such a session.
 pub const READ: &str = "session, one read";
 
+/// The coordinates of a session that is fed whole, and the words of its pieces.
+pub const FOLDED: [usize; 2] = [10, MOST];
+pub const PIECES: [usize; 3] = [16, 1024, 1 << MOST];
+
 /// The name, side and weight of a session, and the fold in one call.
 const SESSIONS: [(&str, u32, u32, Option<Fold>); 6] = [
     ("session, prefix, plain", 0, 0, Some(PREFIX.1)),
@@ -33,12 +37,11 @@ const SESSIONS: [(&str, u32, u32, Option<Fold>); 6] = [
 pub fn run(bench: &mut Bench, input: &Input) {
     let n = MOST;
     for (name, side, weight, fold) in SESSIONS {
-        for k in [10, 20] {
+        for k in FOLDED {
             // A next fold in one call is there for all variables only.
             let fold = fold.or((k == n).then_some(next_value));
-            for piece in [16, 1024, 1 << n] {
-                let size = format!("k = {k}, {}", pieces(piece));
-                bench.case(name, n, size, || {
+            for piece in PIECES {
+                bench.case(name, n, in_pieces(k, piece), || {
                     let whole = Session::new(input, n, k);
                     whole.sides(side, weight, piece, fold)
                 });
@@ -73,6 +76,10 @@ fn next_value(
     out: &mut [u32],
 ) -> u32 {
     host::split_eval_next_base(table, point, scale, work, out.try_into().unwrap())
+}
+
+pub fn in_pieces(k: usize, piece: usize) -> String {
+    format!("k = {k}, {}", pieces(piece))
 }
 
 pub fn one_feed(k: usize, count: usize) -> String {
@@ -117,7 +124,7 @@ impl<'a> Session<'a> {
     fn sides(self, side: u32, weight: u32, piece: usize, fold: Option<Fold>) -> Vec<Side<'a>> {
         let Self { input, n, k, .. } = self;
         let fold = fold.map(|fold| our_fold(Who::Fold, input, n, k, fold));
-        let mut sides = vec![self.fed(side, weight, piece)];
+        let mut sides = vec![self.fed(Ours, side, weight, piece)];
         sides.extend(fold);
         sides
     }
@@ -161,9 +168,9 @@ impl<'a> Session<'a> {
     }
 
     /// The table in pieces of this many words.
-    fn fed(self, side: u32, weight: u32, piece: usize) -> Side<'a> {
+    pub fn fed(self, who: Who, side: u32, weight: u32, piece: usize) -> Side<'a> {
         let words = self.input.words(self.n);
-        Side::lent(Ours, self.out_words(), move |out| {
+        Side::lent(who, self.out_words(), move |out| {
             self.pass(side, weight, words.chunks(piece), out)
         })
     }

@@ -17,6 +17,10 @@ pub enum Who {
     Words,
     /// Our sessions of each column alone, beside one of all columns.
     Apart,
+    /// The same of ours on shifted weight, beside that on cyclic weight.
+    Shifted,
+    /// And on next weight.
+    Next,
     /// A process that reads nothing, beside one that reads frames.
     Start,
 }
@@ -30,6 +34,8 @@ impl Who {
             Self::Fold => "fold",
             Self::Words => "words",
             Self::Apart => "apart",
+            Self::Shifted => "shifted",
+            Self::Next => "next",
             Self::Start => "start",
         }
     }
@@ -69,6 +75,15 @@ impl<'a> Side<'a> {
         Self::new(who, move |clock| {
             assert_eq!(clock.each(|| call(&mut out)), 0, "{who:?} refused");
             clock.leaves(|| out.clone());
+        })
+    }
+
+    /// The same side, what it leaves being shown as another leaves it.
+    pub fn shown(self, shown: impl Fn(Vec<u32>) -> Vec<u32> + 'a) -> Self {
+        let Self { who, mut run } = self;
+        Self::new(who, move |clock| {
+            run(clock);
+            clock.shows(&shown);
         })
     }
 }

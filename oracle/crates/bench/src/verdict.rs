@@ -6,7 +6,7 @@ use crate::aims::{
 };
 use crate::bench::{Row, key};
 use crate::report::{percent, seconds, table};
-use crate::side::Who::{self, Apart, C, Fold, Ours, Rust};
+use crate::side::Who::{self, Apart, C, Fold, Ours, Rust, Shifted};
 
 /// The aims; `parts` are the fold's of foldframes.
 pub fn aims(rows: &[Row], parts: &[f64]) -> String {
@@ -71,6 +71,7 @@ fn side(who: Who) -> &'static str {
         C => "C",
         Fold => "the fold",
         Apart => "its columns apart",
+        Shifted => "the shifted one",
         _ => who.name(),
     }
 }

@@ -35,6 +35,10 @@ macro_rules! operations {
             24: FixSuffixVarMut = fix_suffix_var_mut(a, work, count);
             25: FixPrefixVarMutMonomial = fix_prefix_var_mut_monomial(a, work, count);
             26: SumPrefixVarMut = sum_prefix_var_mut(work, count);
+            27: NewCyclicFromPoint = new_cyclic_from_point(a, out);
+            28: PolyEvalCyclicBase = poly_eval_cyclic_base(a, b, out);
+            29: CompressPrefixCyclic = compress_prefix_cyclic(a, b, c, work, out);
+            30: CompressSuffixCyclic = compress_suffix_cyclic(a, b, c, work, out);
         }
     };
 }
@@ -81,11 +85,13 @@ impl Operation {
     pub fn slices(self) -> [&'static str; 5] {
         match self {
             EqualityAtVertex | EqualityWeightsMsb | EqualityWeightsLsb | NewNextFromPoint
-            | EvalSelect => ["point", "", "", "", "out"],
+            | NewCyclicFromPoint | EvalSelect => ["point", "", "", "", "out"],
             EvalEq | EvalNext => ["point", "row", "", "", "out"],
             NewFromPoint => ["point", "scale", "", "", "out"],
             EvalEqBatch | EvalEqBatchAdd => ["points", "scalars", "", "", "out"],
-            PolyEvalBase | PolyEvalExt | PolyEvalNextBase => ["table", "point", "", "", "out"],
+            PolyEvalBase | PolyEvalExt | PolyEvalNextBase | PolyEvalCyclicBase => {
+                ["table", "point", "", "", "out"]
+            }
             LastScalar => ["point", "scale", "", "work", "out"],
             AccumulateInto => ["point", "scale", "given", "work", "out"],
             FixPrefixVarMut | FixSuffixVarMut | FixPrefixVarMutMonomial => {
@@ -112,20 +118,25 @@ impl Operation {
         let point = 4 * n;
         match self {
             EqualityAtVertex | EvalSelect => [point, 0, 0, 0, 4],
-            EqualityWeightsMsb | EqualityWeightsLsb | NewNextFromPoint => [point, 0, 0, 0, 4 << n],
+            EqualityWeightsMsb | EqualityWeightsLsb | NewNextFromPoint | NewCyclicFromPoint => {
+                [point, 0, 0, 0, 4 << n]
+            }
             EvalEq => [point, point, 0, 0, 4],
             EvalNext => [point, point, 0, 0, 12],
             NewFromPoint => [point, 4, 0, 0, 4 << n],
             EvalEqBatch | EvalEqBatchAdd => [point * m, 4 * m, 0, 0, 4 << n],
-            PolyEvalBase | PolyEvalNextBase => [1 << n, point, 0, 0, 4],
+            PolyEvalBase | PolyEvalNextBase | PolyEvalCyclicBase => [1 << n, point, 0, 0, 4],
             PolyEvalExt => [4 << n, point, 0, 0, 4],
             SplitEvalBase | SplitEvalNextBase => [1 << n, point, 4, work(n), 4],
             SplitEvalExt => [4 << n, point, 4, work(n), 4],
             LastScalar => [point, 4, 0, work(n), 4],
             AccumulateInto => [point, 4, 4, work(n), 4 << n],
-            CompressPrefix | CompressSuffix | CompressPrefixShifted | CompressSuffixShifted => {
-                [1 << n, 4 * m, 4, work(m), 4 << n.saturating_sub(m)]
-            }
+            CompressPrefix
+            | CompressSuffix
+            | CompressPrefixShifted
+            | CompressSuffixShifted
+            | CompressPrefixCyclic
+            | CompressSuffixCyclic => [1 << n, 4 * m, 4, work(m), 4 << n.saturating_sub(m)],
             FixPrefixVarMut | FixSuffixVarMut | FixPrefixVarMutMonomial => [4, 0, 0, 4 << n, 1],
             SumPrefixVarMut => [0, 0, 0, 4 << n, 1],
         }
@@ -141,7 +152,8 @@ impl Operation {
     /// Whether its table, the first slice, is of base words.
     pub fn base_table(self) -> bool {
         match self {
-            PolyEvalBase | PolyEvalNextBase | SplitEvalBase | SplitEvalNextBase => true,
+            PolyEvalBase | PolyEvalNextBase | PolyEvalCyclicBase | SplitEvalBase
+            | SplitEvalNextBase => true,
             _ => self.folds(),
         }
     }
@@ -149,7 +161,12 @@ impl Operation {
     pub fn folds(self) -> bool {
         matches!(
             self,
-            CompressPrefix | CompressSuffix | CompressPrefixShifted | CompressSuffixShifted
+            CompressPrefix
+                | CompressSuffix
+                | CompressPrefixShifted
+                | CompressSuffixShifted
+                | CompressPrefixCyclic
+                | CompressSuffixCyclic
         )
     }
 

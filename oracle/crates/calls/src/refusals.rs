@@ -15,8 +15,8 @@ pub type Tests = Vec<(bool, u32)>;
 impl Call {
     pub fn refusals(&self) -> Tests {
         match self.operation {
-            EqualityAtVertex | EqualityWeightsMsb | EqualityWeightsLsb | NewNextFromPoint
-            | NewFromPoint => self.of_one_point(),
+            EqualityAtVertex | EqualityWeightsMsb | EqualityWeightsLsb | NewFromPoint
+            | NewNextFromPoint | NewCyclicFromPoint => self.of_one_point(),
             EvalEq | EvalNext | EvalSelect => self.of_products(),
             EvalEqBatch | EvalEqBatchAdd if self.no_scalars() => vec![],
             EvalEqBatch | EvalEqBatchAdd => self.of_a_batch(),

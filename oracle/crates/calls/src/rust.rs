@@ -1,4 +1,5 @@
-//! What the unchanged Rust crate leaves in work and in out.
+//! What the unchanged Rust crate leaves in work and in out. It has no cyclic
+//! weight: that is its plain one turned by a row, or its shifted fold and row 0.
 
 use p3_field::{Base, Element, PrimeCharacteristicRing};
 use p3_matrix::dense::RowMajorMatrixView;
@@ -83,6 +84,16 @@ impl Call {
             PolyEvalBase => vec![base(first).eval_base(&point(second))],
             PolyEvalExt => vec![Poly::new(a()).eval_ext::<Base>(&point(second))],
             PolyEvalNextBase => vec![base(first).eval_next_base(&point(second))],
+            NewCyclicFromPoint => {
+                let mut table = Poly::new_from_point(&a(), Element::ONE).into_evals();
+                table.rotate_right(1);
+                table
+            }
+            PolyEvalCyclicBase => {
+                let mut table = first.clone();
+                table.rotate_left(1);
+                vec![base(&table).eval_base(&point(second))]
+            }
             _ => unreachable!(),
         }
     }
@@ -124,6 +135,15 @@ impl Call {
             CompressSuffixShifted => split
                 .compress_suffix_shifted(base(a).as_view())
                 .into_evals(),
+            CompressPrefixCyclic => {
+                let shifted = split.compress_prefix_shifted(base(a).as_view());
+                with_first_row(shifted, split.last_scalar(), a.iter())
+            }
+            CompressSuffixCyclic => {
+                let shifted = split.compress_suffix_shifted(base(a).as_view());
+                let rows = 1 << (b.len() / 4);
+                with_first_row(shifted, split.last_scalar(), a.iter().step_by(rows))
+            }
             _ => unreachable!(),
         };
         [tables(&split), words(out)]
@@ -145,6 +165,18 @@ impl Call {
         left.extend(&table[4 * count..]);
         [left, vec![count as u32]]
     }
+}
+
+/// A fold with this weight times the first row added, a word to each place.
+fn with_first_row<'a>(
+    fold: Poly<Element>,
+    weight: Element,
+    row: impl Iterator<Item = &'a u32>,
+) -> Vec<Element> {
+    let places = fold.into_evals().into_iter().zip(row);
+    places
+        .map(|(place, &word)| place + weight * Base::new(word))
+        .collect()
 }
 
 /// eq0 with the scale, then eq1. The Rust shows eq1 only by adding it.

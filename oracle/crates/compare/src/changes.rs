@@ -6,7 +6,7 @@ use host::COORDINATES;
 
 use crate::step::Kind::{Close, Feed, Read};
 use crate::step::{CLOSED, COLUMNS, K, N, POINT, SCALE, SIDE, TAKEN, WEIGHT, WORDS};
-use crate::step::{MOST_COLUMNS, Step, most_columns, wide};
+use crate::step::{MOST_COLUMNS, Step, WEIGHTS, most_columns, wide};
 
 pub type Change = fn(&mut Step, &mut Random);
 
@@ -42,7 +42,7 @@ pub const OPEN: &[Change] = &[
     |step, random| spoil(&mut step.point, random),
     |step, random| spoil(&mut step.scale, random),
     |step, random| step.side = pick(random, [2, u32::MAX]),
-    |step, random| step.weight = pick(random, [3, u32::MAX]),
+    |step, random| step.weight = pick(random, [WEIGHTS, u32::MAX]),
 ];
 
 /// Changes of a call of feed, close or read.
@@ -106,7 +106,7 @@ pub const OPENED: &[Change] = &[
         put(step, WORDS - 1 - random.below(unused as u32) as usize, 1);
     },
     |step, random| put(step, SIDE, pick(random, [2, u32::MAX])),
-    |step, random| put(step, WEIGHT, pick(random, [3, u32::MAX])),
+    |step, random| put(step, WEIGHT, pick(random, [WEIGHTS, u32::MAX])),
     |step, random| put(step, CLOSED, pick(random, [2, u32::MAX])),
 ];
 

@@ -1,8 +1,8 @@
 //! Split points and folds.
 
 use calls::Operation::{
-    AccumulateInto, CompressPrefix, CompressPrefixShifted, CompressSuffix, CompressSuffixShifted,
-    LastScalar,
+    AccumulateInto, CompressPrefix, CompressPrefixCyclic, CompressPrefixShifted, CompressSuffix,
+    CompressSuffixCyclic, CompressSuffixShifted, LastScalar,
 };
 
 use crate::operation::{Calls, operation};
@@ -19,6 +19,8 @@ pub fn compare(run: &mut Run) {
         CompressSuffix,
         CompressPrefixShifted,
         CompressSuffixShifted,
+        CompressPrefixCyclic,
+        CompressSuffixCyclic,
     ] {
         operation(run, name, fold);
     }

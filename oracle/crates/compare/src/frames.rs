@@ -16,7 +16,7 @@ use program::Program;
 use program::Way::{self, Bytewise, Held, Whole};
 use reader::Place::{After, Coordinate, End, Head, NoFrame, Rows, Stop};
 use reader::{Place, Printed, read};
-use text::{fitting, frame};
+use text::{CHOICES, fitting, frame};
 
 type Numbers = &'static [u32];
 type Pairs = &'static [(u32, u32)];
@@ -78,6 +78,9 @@ impl Frames<'_> {
             (2, 20, 10, 1 << 10),
             (2, 20, 20, 1 << 20),
             (4, 20, 20, 1),
+            (6, 20, 10, 700_000),
+            (7, 20, 10, 1 << 20),
+            (6, 20, 20, 1),
         ] {
             self.fitting(choice, n, k, words);
         }
@@ -87,7 +90,7 @@ impl Frames<'_> {
     /// a row's end, within a row and before one row.
     fn cuts(&mut self, n: u8, k: u8, count: usize) {
         let (row, rows) = (1 << (n - k), 1 << k);
-        for choice in 0..6 * count as u8 {
+        for choice in 0..CHOICES * count as u8 {
             let mut below = |bound| self.run.random.below(bound);
             let end = row * (1 + below(rows));
             let within = (end + below(row)).min(row * rows);
@@ -119,7 +122,8 @@ impl Frames<'_> {
         let random = &mut self.run.random;
         let n = 2 + random.below(2) as u8;
         let k = 2 + random.below(n as u32 - 1) as u8;
-        let mut lines = fitting(random.below(6) as u8, n, k, words.min(1 << n), random);
+        let choice = random.below(CHOICES.into()) as u8;
+        let mut lines = fitting(choice, n, k, words.min(1 << n), random);
         for change in changes {
             change(&mut lines, random);
         }
@@ -134,7 +138,8 @@ impl Frames<'_> {
             let n = random.below(7) as u8;
             let k = random.below(n as u32 + 1) as u8;
             let words = random.below((1 << n) + 1) as usize;
-            let mut lines = fitting(random.below(6) as u8, n, k, words, random);
+            let choice = random.below(CHOICES.into()) as u8;
+            let mut lines = fitting(choice, n, k, words, random);
             for _ in 0..random.below(5) {
                 all[random.below(all.len() as u32) as usize](&mut lines, random);
             }

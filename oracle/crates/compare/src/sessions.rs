@@ -8,7 +8,7 @@ use crate::met::Met;
 use crate::run::Input::{Number, Words};
 use crate::run::{Input, Run, call};
 use crate::step::Kind::{Close, Feed, Open, Read};
-use crate::step::{Kind, MOST_COLUMNS, NO_SESSION, Step, WORDS, wide};
+use crate::step::{Kind, MOST_COLUMNS, NO_SESSION, Step, WEIGHTS, WORDS, wide};
 
 /// Each call's refusals in their order.
 const REFUSALS: [(Kind, &[u32]); 4] = [
@@ -59,15 +59,16 @@ pub fn compare(run: &mut Run) {
             sessions.all(12, k, sessions.run.count(1, 5));
         }
         for side in [0, 1] {
-            for weight in 0..sessions.run.count(1, 3) as u32 {
-                let weight = 2 - weight;
+            for &weight in &[2, 3, 0, 1][..sessions.run.count(2, 4)] {
                 sessions.session(Opened::new(20, 10, 1, side, weight), Some(4_096));
             }
         }
-        // The most coordinates: none is unused.
-        sessions.session(Opened::new(20, 20, 1, 0, 2), Some(1 << 19));
-        // The most words.
-        sessions.session(Opened::new(20, 10, MOST_COLUMNS, 0, 2), Some(1 << 23));
+        for weight in [2, 3] {
+            // The most coordinates: none is unused.
+            sessions.session(Opened::new(20, 20, 1, 0, weight), Some(1 << 19));
+            // The most words.
+            sessions.session(Opened::new(20, 10, MOST_COLUMNS, 0, weight), Some(1 << 23));
+        }
         for (kind, refusals) in REFUSALS {
             sessions.met.demand((kind, true), refusals, &EXCLUSIVE);
             sessions.met.demand((kind, false), &[NO_SESSION], &[]);
@@ -135,8 +136,8 @@ impl Sessions<'_> {
     /// Sessions of each side and weight, fed in several ways; each way with each
     /// count of columns by turns.
     fn all(&mut self, n: usize, k: usize, count: usize) {
-        for choice in 0..6 * count {
-            let (side, weight) = (choice as u32 % 2, choice as u32 / 2 % 3);
+        for choice in 0..2 * WEIGHTS as usize * count {
+            let (side, weight) = (choice as u32 % 2, choice as u32 / 2 % WEIGHTS);
             let lengths = [None, None, None, Some(16), Some(WHOLE)];
             for (way, length) in lengths.into_iter().enumerate() {
                 let columns = match side {

@@ -1,8 +1,8 @@
 //! One call of the fold session, and what it must answer and leave.
 
 use calls::Operation::{
-    CompressPrefix, CompressPrefixShifted, CompressSuffix, CompressSuffixShifted, LastScalar,
-    NewFromPoint,
+    CompressPrefix, CompressPrefixCyclic, CompressPrefixShifted, CompressSuffix,
+    CompressSuffixCyclic, CompressSuffixShifted, LastScalar, NewFromPoint,
 };
 use calls::{Call, MOST, Operation, Outcome, element, entries, rows, splits, unreduced};
 use p3_field::{Base, Element, PrimeCharacteristicRing};
@@ -25,6 +25,9 @@ pub const WORDS: usize = HEAD + COORDINATES;
 
 /// The host library's own answer where numbers are no session's.
 pub const NO_SESSION: u32 = 255;
+
+/// The weights: 0 plain, 1 shifted, 2 next, 3 cyclic.
+pub const WEIGHTS: u32 = 4;
 
 /// The most columns of a prefix session.
 pub const MOST_COLUMNS: u64 = 16;
@@ -130,8 +133,8 @@ impl Step {
 
     fn is_no_session(&self) -> bool {
         match self.kind {
-            Open => self.side > 1 || self.weight > 2,
-            _ => self.words[SIDE] > 1 || self.words[WEIGHT] > 2 || self.words[CLOSED] > 1,
+            Open => self.side > 1 || self.weight >= WEIGHTS,
+            _ => self.words[SIDE] > 1 || self.words[WEIGHT] >= WEIGHTS || self.words[CLOSED] > 1,
         }
     }
 
@@ -196,6 +199,8 @@ impl Step {
         let mut weights = eq.clone();
         if weight > 0 {
             weights.rotate_right(1);
+        }
+        if weight == 1 || weight == 2 {
             weights[0] = Element::ZERO;
         }
         if weight == 2 {
@@ -246,15 +251,18 @@ impl Step {
     }
 
     /// The Rust's folds of one column, whose word w is word w·c + j of the table.
-    /// It has no next fold: that is the shifted one, and the last row.
+    /// It has no next fold and no cyclic one: those are the shifted one, and the
+    /// last row or row 0.
     fn folded_column(&self, table: &[u32], column: usize) -> Vec<Outcome<1>> {
         let words = table[column..].iter().step_by(self.columns as usize);
         let table = &words.copied().collect::<Vec<_>>()[..];
         let (n, k) = (self.n as usize, self.point.len() / 4);
         let fold = match (self.side, self.weight) {
             (0, 0) => CompressPrefix,
+            (0, 3) => CompressPrefixCyclic,
             (0, _) => CompressPrefixShifted,
             (_, 0) => CompressSuffix,
+            (_, 3) => CompressSuffixCyclic,
             _ => CompressSuffixShifted,
         };
         let folds = rust(fold, [table, &self.point, &self.scale], n, k);

@@ -1,6 +1,8 @@
 //! Tables of a point.
 
-use calls::Operation::{EqualityWeightsLsb, EqualityWeightsMsb, NewFromPoint, NewNextFromPoint};
+use calls::Operation::{
+    EqualityWeightsLsb, EqualityWeightsMsb, NewCyclicFromPoint, NewFromPoint, NewNextFromPoint,
+};
 
 use crate::operation::operation;
 use crate::run::Run;
@@ -11,6 +13,7 @@ pub fn compare(run: &mut Run) {
         EqualityWeightsLsb,
         NewFromPoint,
         NewNextFromPoint,
+        NewCyclicFromPoint,
     ] {
         operation(run, name, |calls| {
             calls.every_size(3, calls.run.count(400_000, 10_000_000));

@@ -1,7 +1,8 @@
 //! Values of tables at a point.
 
 use calls::Operation::{
-    PolyEvalBase, PolyEvalExt, PolyEvalNextBase, SplitEvalBase, SplitEvalExt, SplitEvalNextBase,
+    PolyEvalBase, PolyEvalCyclicBase, PolyEvalExt, PolyEvalNextBase, SplitEvalBase, SplitEvalExt,
+    SplitEvalNextBase,
 };
 
 use crate::operation::operation;
@@ -12,6 +13,7 @@ pub fn compare(run: &mut Run) {
         PolyEvalBase,
         PolyEvalExt,
         PolyEvalNextBase,
+        PolyEvalCyclicBase,
         SplitEvalBase,
         SplitEvalExt,
         SplitEvalNextBase,

@@ -76,12 +76,14 @@ operations! {
     host_eval_select = eval_select reads(point) numbers(var: u32) gives(out: [u32; 4]);
     host_new_from_point = new_from_point reads(point) scales(scale) writes(out);
     host_new_next_from_point = new_next_from_point reads(point) writes(out);
+    host_new_cyclic_from_point = new_cyclic_from_point reads(point) writes(out);
     host_eval_eq_batch = eval_eq_batch reads(points, scalars) numbers(n: u64) writes(out);
     host_eval_eq_batch_add = eval_eq_batch_add reads(points, scalars) numbers(n: u64) writes(out);
 
     host_poly_eval_base = poly_eval_base reads(table, point) gives(out: [u32; 4]);
     host_poly_eval_ext = poly_eval_ext reads(table, point) gives(out: [u32; 4]);
     host_poly_eval_next_base = poly_eval_next_base reads(table, point) gives(out: [u32; 4]);
+    host_poly_eval_cyclic_base = poly_eval_cyclic_base reads(table, point) gives(out: [u32; 4]);
     host_split_eval_base = split_eval_base
         reads(table, point) scales(scale) writes(work) gives(out: [u32; 4]);
     host_split_eval_ext = split_eval_ext
@@ -95,6 +97,10 @@ operations! {
     host_compress_prefix_shifted = compress_prefix_shifted
         reads(table, point) scales(scale) writes(work, out);
     host_compress_suffix_shifted = compress_suffix_shifted
+        reads(table, point) scales(scale) writes(work, out);
+    host_compress_prefix_cyclic = compress_prefix_cyclic
+        reads(table, point) scales(scale) writes(work, out);
+    host_compress_suffix_cyclic = compress_suffix_cyclic
         reads(table, point) scales(scale) writes(work, out);
     host_fix_prefix_var_mut = fix_prefix_var_mut scales(r) writes(table) gives(count: u64);
     host_fix_suffix_var_mut = fix_suffix_var_mut scales(r) writes(table) gives(count: u64);

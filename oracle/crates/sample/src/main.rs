@@ -20,9 +20,6 @@ const MOST_OUT: usize = 64;
 /// A record of more words stands once for the operations with its slices.
 const LONG: usize = 85;
 
-/// The most words of the list: those that the replay holds.
-const WORDS: usize = 7281;
-
 fn main() {
     let Some(file) = env::args().nth(1) else {
         eprintln!("usage: sample FILE");
@@ -46,7 +43,6 @@ fn main() {
         }
     }
     let bytes = text.len();
-    assert!(bytes <= 9 * WORDS, "{bytes} bytes");
     if let Err(error) = fs::write(&file, &text) {
         eprintln!("{file}: {error}");
         process::exit(1);
@@ -108,7 +104,7 @@ fn joined(call: &Call) -> Vec<u32> {
 
 /// The operations on points, whose records give a number of their own.
 fn on_points(operation: Operation) -> bool {
-    operation as u32 <= EvalEqBatchAdd as u32
+    operation as u32 <= EvalEqBatchAdd as u32 || operation == NewCyclicFromPoint
 }
 
 /// The words that a record has beside its head.

@@ -59,16 +59,22 @@ fn arguments(operation: Operation, n: usize, table: &[u32]) -> ([Vec<u32>; 3], u
     let k = n.div_ceil(2);
     let (read, number): ([&[u32]; 3], u64) = match operation {
         EqualityAtVertex => ([z, &[], &[]], (1 << n) - 1),
-        EqualityWeightsMsb | EqualityWeightsLsb | NewNextFromPoint => ([z, &[], &[]], 0),
+        EqualityWeightsMsb | EqualityWeightsLsb | NewNextFromPoint | NewCyclicFromPoint => {
+            ([z, &[], &[]], 0)
+        }
         EvalEq | EvalNext => ([z, &[5, 7][..n], &[]], 0),
         EvalSelect => ([z, &[], &[]], 3),
         NewFromPoint | LastScalar => ([z, &[5], &[]], 0),
         EvalEqBatch | EvalEqBatchAdd => ([&[2, 0, 3, 1][..2 * n], &[1, 10], &[]], n as u64),
-        PolyEvalBase | PolyEvalExt | PolyEvalNextBase => ([table, z, &[]], 0),
+        PolyEvalBase | PolyEvalExt | PolyEvalNextBase | PolyEvalCyclicBase => ([table, z, &[]], 0),
         SplitEvalBase | SplitEvalExt | SplitEvalNextBase => ([table, z, scale], 0),
         AccumulateInto => ([z, &[5], &[3]], 0),
-        CompressPrefix | CompressPrefixShifted => ([table, &z[..k], scale], 0),
-        CompressSuffix | CompressSuffixShifted => ([table, &z[n - k..], scale], 0),
+        CompressPrefix | CompressPrefixShifted | CompressPrefixCyclic => {
+            ([table, &z[..k], scale], 0)
+        }
+        CompressSuffix | CompressSuffixShifted | CompressSuffixCyclic => {
+            ([table, &z[n - k..], scale], 0)
+        }
         FixPrefixVarMut | FixSuffixVarMut | FixPrefixVarMutMonomial => ([&[2], &[], &[]], 0),
         SumPrefixVarMut => ([&[]; 3], 0),
     };

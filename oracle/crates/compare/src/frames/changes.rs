@@ -3,7 +3,7 @@
 
 use calls::{Random, UNREDUCED};
 
-use super::text::{coordinate, hex, piece};
+use super::text::{coordinate, frame, hex, piece};
 
 pub type Lines = Vec<Vec<u8>>;
 pub type Change = fn(&mut Lines, &mut Random);
@@ -14,7 +14,7 @@ const NO_DIGITS: &[u8] = b"ABFGg/:@` \r\t\0\x7f\xb0";
 /// Changes of frames, most of them in one place.
 pub const FRAMES: &[Change] = &[
     |lines, _| put(lines, b"01", 2, b"02"),
-    |lines, _| put(lines, b"01", 4, b"03"),
+    |lines, _| put(lines, b"01", 4, b"04"),
     |lines, _| put(lines, b"01", 4, b"ff"),
     |lines, _| put(lines, b"01", 6, b"15"),
     |lines, _| put(lines, b"01", 6, b"ff"),
@@ -51,6 +51,7 @@ pub const FRAMES: &[Change] = &[
     },
     // Words.
     |lines, random| spoil(lines, find(lines, b"03"), 4, random),
+    |lines, random| insert(lines, began(lines), frame(&[3, 1], &[unreduced(random)])),
     |lines, random| insert(lines, began(lines), piece(16, random)),
     |lines, random| insert(lines, began(lines), piece(17, random)),
     |lines, random| {
@@ -182,9 +183,12 @@ fn spoil(lines: &mut Lines, line: Option<usize>, from: usize, random: &mut Rando
         .collect();
     if !words.is_empty() {
         let at = random.below(words.len() as u32) as usize;
-        let word = UNREDUCED[random.below(4) as usize];
-        words[at].copy_from_slice(&hex(&word.to_be_bytes()));
+        words[at].copy_from_slice(&hex(&unreduced(random).to_be_bytes()));
     }
+}
+
+fn unreduced(random: &mut Random) -> u32 {
+    UNREDUCED[random.below(UNREDUCED.len() as u32) as usize]
 }
 
 fn pick(lines: &Lines, random: &mut Random) -> Option<usize> {

@@ -1,12 +1,13 @@
 //! What foldframes must print, by document 01's "Frames" and "Program, line by
-//! line", and document 02's (b) for the coordinates and (d) for missing words.
-//! Out is that of the library's fold session, and of the Rust's folds.
+//! line", and document 02's (b) for the coordinates, (d) for missing words and
+//! (f) for the weight `03`. Out is that of the library's fold session, and of the
+//! Rust's folds.
 
 use calls::{MOST, Tests, unreduced};
 
 use crate::met::Met;
 use crate::step::Kind::{Close, Feed, Open};
-use crate::step::{Step, WORDS};
+use crate::step::{Step, WEIGHTS, WORDS};
 
 use super::text::{bytes, words};
 
@@ -78,7 +79,7 @@ impl Reader {
             _ if self.closed => (After, vec![(true, 10)]),
             [1, side, weight, n, k, ref scale @ ..] if scale.len() == 16 => {
                 let tests = vec![
-                    (!early || side > 1 || weight > 2, 12),
+                    (!early || side > 1 || weight as u32 >= WEIGHTS, 12),
                     (n.max(k) as u64 > MOST, 3),
                     (k > n, 4),
                     (unreduced([&words(scale)]), 5),

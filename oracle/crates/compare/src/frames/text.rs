@@ -2,6 +2,11 @@
 
 use calls::Random;
 
+use crate::step::WEIGHTS;
+
+/// The choices of side and weight.
+pub const CHOICES: u8 = 2 * WEIGHTS as u8;
+
 pub fn hex(bytes: &[u8]) -> Vec<u8> {
     let digits: Vec<_> = bytes.iter().map(|byte| format!("{byte:02x}")).collect();
     digits.concat().into_bytes()
@@ -24,7 +29,7 @@ pub fn piece(count: u8, random: &mut Random) -> Vec<u8> {
 /// The lines of an input that is accepted: its side and weight by `choice`, its
 /// coordinates in order, its words in pieces.
 pub fn fitting(choice: u8, n: u8, k: u8, words: usize, random: &mut Random) -> Vec<Vec<u8>> {
-    let head = [1, choice % 2, choice / 2 % 3, n, k];
+    let head = [1, choice % 2, choice / 2 % WEIGHTS as u8, n, k];
     let mut lines = vec![frame(&head, &random.elements(4))];
     lines.extend((0..k).map(|index| coordinate(index, random)));
     let mut left = words;

@@ -1,54 +1,47 @@
--- No word of the row, or place after place. Assumes nothing.
+-- No word of the row, or its words by one weight. Assumes nothing.
 use Rattle.std.proofs.Common.{refl, arith}
-use Rattle.algebra.proofs.Words.{below}
-use Rattle.field.specs.Field.{p, p_pos}
-use Rattle.piece.proofs.own.Reaching.{start, next, finish, weighed, untouched, place_there, word_there}
+use Rattle.piece.proofs.own.Reaching.{untouched, first_there, first_fits, start_within, row_there, row_gained}
 use Rattle.piece.proofs.own.Stand.add_row.Goals as goal
 
 pub returns-then-first-end : goal.returns-then-first-end
 returns-then-first-end c =
     untouched c.args.self c.args.piece.now c.requires.0 c.requires.1 c.reach-first.ensures c.reach-end.ensures c.if-first-end.true
 
-pub loop-i-init : goal.loop-i-init
-loop-i-init c = start c.args.self c.args.piece.now c.requires.0 c.requires.1 c.reach-first.ensures c.reach-end.ensures _
+pub overflow_mul-start : goal.overflow_mul-start
+overflow_mul-start c =
+    let fits =
+    first_fits c.args.self c.args.piece.now c.requires.0 c.requires.1 c.reach-first.ensures c.reach-end.ensures c.if-first-end.false in
+    omega (arith, fits)
 
-pub overflow_sub-word : goal.overflow_sub-word
-overflow_sub-word c =
-    (word_there c.args.self c.args.piece.now c.requires.0 c.requires.1 c.reach-first.ensures c.reach-end.ensures
-    c.loop-i.invariant.begun c.loop-i-test.true).0
+pub overflow_add-start : goal.overflow_add-start
+overflow_add-start c =
+    let fits =
+    first_fits c.args.self c.args.piece.now c.requires.0 c.requires.1 c.reach-first.ensures c.reach-end.ensures c.if-first-end.false in
+    omega (arith, fits)
 
-pub bounds-words-self : goal.bounds-words-self
-bounds-words-self c =
-    let there =
-    word_there c.args.self c.args.piece.now c.requires.0 c.requires.1 c.reach-first.ensures c.reach-end.ensures
-    c.loop-i.invariant.begun c.loop-i-test.true in
-    omega (arith, there)
+pub overflow_sub-start : goal.overflow_sub-start
+overflow_sub-start c =
+    first_there c.args.self c.args.piece.now c.requires.0 c.requires.1 c.reach-first.ensures c.reach-end.ensures c.if-first-end.false
 
-pub read-requires : goal.read-requires
-read-requires c =
-    let there =
-    place_there c.args.self c.args.piece.now c.requires.0 c.requires.1 c.reach-first.ensures c.reach-end.ensures
-    c.loop-i.invariant.begun c.loop-i-test.true in
-    (omega (arith, there, c.requires.0.room, c.loop-i.invariant.gained.len), c.loop-i.invariant.gained.below c.requires.0.out_below)
+pub offset_bounds-piece-start : goal.offset_bounds-piece-start
+offset_bounds-piece-start c =
+    let fits =
+    first_fits c.args.self c.args.piece.now c.requires.0 c.requires.1 c.reach-first.ensures c.reach-end.ensures c.if-first-end.false in
+    omega (arith, fits)
 
-pub mul_base-requires : goal.mul_base-requires
-mul_base-requires c = (c.mul-weight.ensures.below, below p _ c.args.piece.now.below p_pos _)
+pub slice_bounds-gain_row-count : goal.slice_bounds-gain_row-count
+slice_bounds-gain_row-count c =
+    start_within c.args.self c.args.piece.now c.requires.0 c.requires.1 c.reach-first.ensures c.reach-end.ensures c.if-first-end.false refl
 
-pub put-requires : goal.put-requires
-put-requires c =
-    let there =
-    place_there c.args.self c.args.piece.now c.requires.0 c.requires.1 c.reach-first.ensures c.reach-end.ensures
-    c.loop-i.invariant.begun c.loop-i-test.true in
-    omega (arith, there, c.requires.0.room, c.loop-i.invariant.gained.len)
+pub slice_bounds-gain_row-start : goal.slice_bounds-gain_row-start
+slice_bounds-gain_row-start c =
+    start_within c.args.self c.args.piece.now c.requires.0 c.requires.1 c.reach-first.ensures c.reach-end.ensures c.if-first-end.false refl
 
-pub loop-i-preserved : goal.loop-i-preserved
-loop-i-preserved c =
-    next c.args.self c.args.piece.now c.requires.0 c.requires.1 c.reach-first.ensures c.reach-end.ensures _ c.loop-i.invariant
-    c.loop-i-test.true refl c.read.ensures c.mul_base.ensures c.add.ensures c.put.ensures
+pub gain_row-requires-clause-row : goal.gain_row-requires-clause-row
+gain_row-requires-clause-row c =
+    row_there c.args.self c.args.piece.now c.requires.0 c.requires.1 c.reach-first.ensures c.reach-end.ensures c.if-first-end.false refl
 
 pub returns : goal.returns
 returns c =
-    weighed c.args.self c.args.piece.now c.requires.0 c.requires.1 c.reach-first.ensures c.reach-end.ensures c.at_row-eq.ensures
-    c.mul-weight.ensures
-    (finish c.args.self c.args.piece.now c.requires.0 c.requires.1 c.reach-first.ensures c.reach-end.ensures
-    c.loop-i.invariant c.loop-i-test.false)
+    row_gained c.args.self c.args.piece.now c.requires.0 c.requires.1 c.reach-first.ensures c.reach-end.ensures c.if-first-end.false refl
+    c.rows-last.ensures c.at_row-eq.ensures c.mul.ensures c.gain_row.ensures
