@@ -19,7 +19,7 @@
    that stands at the call. A refused call changes nothing.
 
    The calls use no heap and no global state. On x86-64 a fold takes at most
-   79,504 bytes of stack, eval_next 1,240 and the vertex 776. They can run on
+   81,920 bytes of stack, eval_next 1,240 and the vertex 776. They can run on
    several threads at once, as long as none writes what another reads or
    writes. */
 

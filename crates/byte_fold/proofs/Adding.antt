@@ -5,11 +5,10 @@ use native.Mathlib.Nat.{zero-mod, mod_self, mod-add-mod, mul-mod_right, mul-mod_
 use native.Mathlib.Decide.{dec_lt}
 use native.Mathlib.Omega.{arith}
 use mathlib.Core.List.{List}
-use lib.ListN.{length, replicate}
+use lib.ListN.{replicate}
 use lib.Pow.{pow-add, pow_pos, pow_mono}
 use Rattle.multilinear.specs.declared.Side.{Side}
 use Rattle.multilinear.specs.declared.Side.TheVariants.{Prefix, Suffix}
-use Rattle.table.proofs.Laws.{table_length}
 use Rattle.plan.specs.Plan.{rows, places, width, capacity}
 use Rattle.plan.proofs.Joining.{none}
 use Rattle.plan.proofs.OneColumn.{one_width, one_table, one_words}
@@ -44,14 +43,23 @@ module _ (s : Section) where
   one_all : capacity s.plan ≡ 2 ^ s.plan.n
   one_all = one_table s.plan s.cut.one_column
 
+  -- all words are a block, where they are few
+  pub all_block : {n : ℕ} → n ≡ capacity s.plan → n ≤ most_block → Portion s.plan 0 n
+  all_block {n} e h =
+      record {
+        within = omega (arith, e);
+        most_words = h;
+        whole = λ side. (zero-mod H, (rw (e, all_rows) (mul-mod_left _ H)));
+      }
+
   -- the sums have room
   pub sums_fit : {z : ℕ} → z ≡ H → 4 * z ≤ most_block
   sums_fit e = let le : H ≤ 2 ^ 10 = pow_mono {j = 10} s.cut.few in omega (arith, le)
 
   -- no sum yet
-  pub none_added : {sums : List ℕ} → sums ≡ replicate (4 * H) 0 → sums ≡ sums_to s 0
+  pub none_added : {sums : List ℕ} {n : ℕ} → sums ≡ replicate n 0 → n ≡ 4 * H → sums ≡ sums_to s 0
   unfolding first_words
-  none_added q = q ∙ ap (λ m. replicate (4 * m) 0) (sym one_row) ∙ none s.plan
+  none_added q l = q ∙ ap (λ m. replicate m 0) l ∙ ap (λ m. replicate (4 * m) 0) (sym one_row) ∙ none s.plan
 
   -- the first row is a block
   module _ {len : ℕ} (l : len ≡ first_row s.plan.side H) where
@@ -107,6 +115,3 @@ module _ (s : Section) where
           whole = λ h. rest_of H at 4096 (a.whole h) ∙ 4096_is (s.plan.n - s.plan.k) s.cut.few;
           sums_are = rw m e;
         }
-
-  pub sums_size : (n : ℕ) {sums : List ℕ} → sums ≡ sums_to s n → length sums ≡ 4 * H
-  sums_size n e = ap length e ∙ table_length (width s.plan) _ ∙ ap (λ m. 4 * m) one_row

@@ -4,3 +4,4 @@ pub mod Gathering
 pub mod Blocks
 pub mod Adding
 pub mod Sections
+pub mod Putting

@@ -2,6 +2,7 @@
 use mathlib.Core.Path.{◌≡◌, refl, sym, ap₂, ◌∙◌}
 use Prim.Native.Nat.{ℕ, zero, suc, ◌+◌, ◌-◌, ◌*◌, ◌%◌, ◌^◌, ◌≤◌, ◌<◌}
 use native.Mathlib.Nat.{mul-le-mul, mul-le-mul_right}
+use native.Mathlib.Numerals.{add-one}
 use native.Mathlib.Omega.{arith}
 use mathlib.Core.List.{List, [], ◌∷◌}
 use lib.ListN.{length, get_or}
@@ -38,9 +39,14 @@ module _ (weights words : List ℕ) where
       none (suc (suc (suc (suc k)))) l = absurd (omega arith)
 
   module _ {i : ℕ} {sums : List ℕ} (u : Few i sums) (h : i < length words) where
-    pub turn : {xs more : List ℕ} → EachGains weights words i 1 xs
+    -- one product more
+    next : (k : ℕ) → coordinate weights words k (i + 1) ≡ coordinate weights words k i + get_or weights (4 * i + k) 0 * get_or words i 0
+    unfolding coordinate
+    next k = rw add-one refl
+
+    pub turn : {xs more : List ℕ} → EachGains weights words i xs
         → ((k : ℕ) → k < 4 → get_or more k 0 ≡ get_or sums k 0 + get_or xs k 0) → Few (i + 1) more
-    turn e m = record { there = omega arith; each = λ k l. m k l ∙ ap₂ ◌+◌ (u.each k l) refl ∙ sym (e.each k l) }
+    turn e m = record { there = omega arith; each = λ k l. m k l ∙ ap₂ ◌+◌ (u.each k l) (e.each k l) ∙ sym (next k) }
 
     module _ (d : Dots weights words) where
       product_bound : (j i : ℕ) → get_or weights j 0 * get_or words i 0 ≤ largest
@@ -54,11 +60,11 @@ module _ (weights words : List ℕ) where
       bound k (suc n) = omega (arith, bound k n, product_bound (4 * n + k) n)
 
       -- a sum fits, with what it gains
-      pub fits : {xs : List ℕ} → length words ≤ 4 → EachGains weights words i 1 xs → (k : ℕ) → k < 4
+      pub fits : {xs : List ℕ} → length words ≤ 4 → EachGains weights words i xs → (k : ℕ) → k < 4
           → get_or sums k 0 + get_or xs k 0 < 2 ^ 64
       fits few e k l =
           let m : (i + 1) * largest ≤ 4 * largest = mul-le-mul_right {n = 4} largest (omega arith) in
-          omega (arith, u.each k l, e.each k l, bound k (i + 1))
+          omega (arith, u.each k l, e.each k l, next k, bound k (i + 1))
 
   -- the residues of the sums of all words are those of their sum
   pub few_holds : {sums : List ℕ} → Few (length words) sums

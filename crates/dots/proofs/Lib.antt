@@ -1,5 +1,9 @@
 mod Arrays
-mod Summing
+mod Wrapping
+pub mod Summing
 mod FewWords
 mod Settling
+mod Columns
+mod Spreading
+mod Spanning
 mod Pairing

@@ -1,2 +1,3 @@
 pub mod Dots
+pub mod Spans
 pub mod Inner

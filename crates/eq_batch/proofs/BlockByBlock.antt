@@ -4,20 +4,28 @@ use Prim.Native.Nat.{ℕ, ◌+◌, ◌-◌, ◌*◌, ◌^◌, ◌≤◌, ◌<◌
 use native.Mathlib.Nat.{zero-add, zero-mul, suc-mul, mul-le-mul_right}
 use native.Mathlib.Omega.{arith}
 use mathlib.Core.List.{List, ◌++◌}
-use lib.ListN.{length}
+use lib.ListN.{length, take}
+use lib.Seq.{length-take-le}
 use lib.Pow.{pow-add}
-use Rattle.field.specs.Field.{Ext, field, from_words, Holds}
+use Rattle.algebra.proofs.Words.{unreduced_take}
+use Rattle.field.specs.Field.{p, p_pos, Ext, field, from_words, Reduced, Holds}
 use Rattle.field.specs.declared.Element.{Element}
 use Rattle.field.proofs.Laws.{field_ring, read_as}
 use Rattle.multilinear.specs.Equality.{eq_at}
 use Rattle.multilinear.proofs.Split.{eq_split}
-use Rattle.table.specs.Table.{elements}
+use Rattle.table.specs.Table.{get_at, element_at, entries, elements}
 use Rattle.table.proofs.Laws.{elements_length}
 use Rattle.table.specs.Gained.{Gained}
-use Rattle.table.proofs.Parts.{elements_cut}
+use Rattle.table.proofs.Parts.{elements_cut, get_take}
 use Rattle.table.proofs.Gaining.{none, blocks}
+use Rattle.multiplier.specs.Tables.{Reaches}
+use Rattle.weigh.specs.Weigh.{Block}
 use Rattle.eq_batch.specs.Inner.{Elements, scaled_at}
 use Rattle.eq_batch.proofs.Rooms.{room_beyond}
+
+-- the scale first
+swap : (a s e : Ext) → field.mul a (field.mul s e) ≡ field.mul s (field.mul a e)
+swap a s e = sym (field_ring.mul_assoc a s e) ∙ ap (λ x. field.mul x e) (field_ring.mul_comm a s) ∙ field_ring.mul_assoc s a e
 
 -- n coordinates cut before the last low: the rows of a block, and the number of blocks
 pub record Cut (n low rows end : ℕ) : Type 0 where
@@ -59,19 +67,40 @@ module _ (point : List ℕ) (n : ℕ) (scale : Element) where
         ap₂ (λ zs m. eq_at field zs (h * m + y)) (sym parts) (cut.rows_are ∙ sym l) ∙ eq_split field_ring us vs h y (rw l b)
 
     module _ (h : ℕ) (ws w : List ℕ) (d : Gained 0 (h * rows) (scaled_at scale (elements point 0 n)) ws w) (b : h < end) where
-      pub room : Elements 0 (2 ^ n) ws → Elements (h * rows) (2 ^ low) w
-      room r = room_beyond (h * rows) (2 ^ low) (2 ^ n) r d (omega (arith, edge cut h b, cut.rows_are))
+      module _ {block : List ℕ} (t : Block (n - low) low point (from_words scale) block) where
+        -- the block's table: the room has it at its front
+        abbrev pub table : List ℕ
+        table = take (4 * rows) block
 
-      pub turn : (a seed : Element) {w' : List ℕ} → Holds a (eq_at field us h) → Holds seed (field.mul (from_words scale) (from_words a))
-          → Gained (h * rows) (2 ^ low) (scaled_at seed vs) w w'
-          → Gained 0 ((h + 1) * rows) (scaled_at scale (elements point 0 n)) ws w'
-      turn a seed {w'} e₁ e₂ e₃ =
-          let s : (h + 1) * rows ≡ h * rows + 2 ^ low = omega (arith, suc-mul h rows, cut.rows_are) in
-          rw s
-          (blocks 0 (h * rows) (2 ^ low) (scaled_at seed vs) (scaled_at scale (elements point 0 n)) ws w w' d (rw zero-add e₃)
-          (λ y l.
-          ap (λ x. field.mul x (eq_at field vs y)) (read_as _ e₂ ∙ ap (field.mul (from_words scale)) (read_as _ e₁))
-          ∙ field_ring.mul_assoc _ _ _ ∙ ap (field.mul (from_words scale)) (sym (row h y l))))
+        pub table_rows : entries table ≡ rows
+        table_rows = omega (arith, length-take-le (4 * rows) block (omega (arith, t.room.enough, cut.rows_are)))
+
+        -- element y of it
+        scaled : (y : ℕ) → y < 2 ^ low → element_at table y ≡ field.mul (from_words scale) (eq_at field vs y)
+        scaled y l = ap from_words (get_take rows y block (omega (arith, cut.rows_are))) ∙ t.holds y l
+
+        module _ (r : Elements 0 (2 ^ n) ws) where
+          beyond : Elements (h * rows) (2 ^ low) w
+          beyond = room_beyond (h * rows) (2 ^ low) (2 ^ n) r d (omega (arith, edge cut h b, cut.rows_are))
+
+          pub reaches : Reaches (h * rows) table w
+          reaches =
+              record { fits = omega (arith, table_rows, beyond.fits, cut.rows_are); below = unreduced_take p p_pos (4 * rows) block t.room.below }
+
+          pub reduced : (y : ℕ) → y < entries table → Reduced (get_at w (h * rows + y))
+          reduced y l = beyond.reduced y (omega (arith, table_rows, cut.rows_are))
+
+        pub turn : (seed : Element) {w' : List ℕ} → Holds seed (eq_at field us h)
+            → Gained (h * rows) (entries table) (λ y. field.mul (from_words seed) (element_at table y)) w w'
+            → Gained 0 ((h + 1) * rows) (scaled_at scale (elements point 0 n)) ws w'
+        turn seed {w'} f g =
+            let s : (h + 1) * rows ≡ h * rows + 2 ^ low = omega (arith, suc-mul h rows, cut.rows_are) in
+            let m : entries table ≡ 2 ^ low = table_rows ∙ cut.rows_are in
+            rw s
+            (blocks 0 (h * rows) (2 ^ low) _ (scaled_at scale (elements point 0 n)) ws w w' d (rw zero-add (rw m at g))
+            (λ y l.
+            ap₂ field.mul (read_as _ f) (scaled y l) ∙ swap (eq_at field us h) (from_words scale) (eq_at field vs y)
+            ∙ ap (field.mul (from_words scale)) (sym (row h y l))))
 
     pub finish : (h : ℕ) {ws w : List ℕ} → Gained 0 (h * rows) (scaled_at scale (elements point 0 n)) ws w → h ≡ end
         → Gained 0 (2 ^ n) (scaled_at scale (elements point 0 n)) ws w

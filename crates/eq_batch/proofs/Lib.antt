@@ -1,6 +1,5 @@
 mod Rooms
 mod Gathering
-mod Blocks
 mod BlockByBlock
 mod Summing
 mod Rows

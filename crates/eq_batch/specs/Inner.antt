@@ -1,12 +1,11 @@
 -- What the inner functions take and give. No operation that users call cites it. Assumes nothing.
-use Rattle.std.specs.Prelude.{◌≡◌, false, ℕ, ◌+◌, ◌-◌, ◌*◌, ◌≤◌, ◌<◌, List, length}
+use Rattle.std.specs.Prelude.{◌≡◌, false, ℕ, ◌+◌, ◌*◌, ◌≤◌, ◌<◌, List, length}
 use Rattle.algebra.specs.Words.{unreduced}
 use Rattle.multilinear.specs.Equality.{eq_at}
 use Rattle.field.specs.Field.{p, Ext, field, from_words, Reduced}
 use Rattle.field.specs.declared.Element.{Element}
 use Rattle.table.specs.Table.{get_at, entries, elements}
 use Rattle.table.specs.Refusals.{most}
-use Rattle.point.specs.declared.Point.{Point}
 use Rattle.eq_batch.specs.Batch.{most_points, column}
 
 -- n elements from place `from` on stand in out, each reduced
@@ -40,7 +39,3 @@ pub record Gathered (n w j : ℕ) (points r : List ℕ) : Type 0 where
 -- scale·eq of coordinates, at row y
 abbrev pub scaled_at : Element → List Ext → ℕ → Ext
 scaled_at scale zs y = field.mul (from_words scale) (eq_at field zs y)
-
--- the last k coordinates of a point
-abbrev pub last : ℕ → Point → List Ext
-last k point = elements point.words.now (point.count - k) k

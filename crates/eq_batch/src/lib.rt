@@ -2,21 +2,20 @@
 //
 //     out[y] = sum_j scalar_j eq(point_j)[y]
 //
-// A point's table is made in blocks of at most 2^8 rows, in an array (4 KiB), and added to out block by block:
-// 2^n products a point, and at most 13 more a block.
+// A point's table of the last 8 coordinates, or fewer, is made once, in an array (4 KiB). out gains it block by block, times eq of the
+// coordinates before: 2^n products a point, 2^8 more, and at most 12 a block.
 #![tactic(auto)]
 
-ghost use Rattle.std.specs.Prelude.{◌≡◌, true, false, not, ◌+◌, ◌*◌, ◌^◌, ◌≤◌, eqb};
+ghost use Rattle.std.specs.Prelude.{◌≡◌, true, false, not, ◌*◌, ◌^◌, eqb};
 ghost use Rattle.field.specs.Field.{Reduced};
-ghost use Rattle.table.specs.Table.{element_at};
 ghost use Rattle.table.specs.Refusals.{answer, verdict};
 ghost use Rattle.table.specs.Gained.{Gained};
 ghost use Rattle.point.specs.Points.{coordinates};
-ghost use Rattle.weigh.specs.Weigh.{block_variables};
 ghost use Rattle.eq_batch.specs.Batch.{batch_tests, batch_answer, batch_at, set_out, add_out};
-ghost use Rattle.eq_batch.specs.Inner.{Elements, Points, Column, Gathered, scaled_at, last};
+ghost use Rattle.eq_batch.specs.Inner.{Elements, Points, Column, Gathered, scaled_at};
 
 use field::Element;
+use multiplier::Multiplier;
 use point::{Point, WORDS, equality};
 use table::Refusal;
 use weigh::{BLOCK, BLOCK_WORDS};
@@ -130,7 +129,7 @@ fn gather(points: &[u32], n: usize, w: usize, j: usize) -> [u32; WORDS]
     point
 }
 
-// out gains scale eq of the point, block by block: a block for each row of the first coordinates.
+// out gains scale eq of the point, block by block: a block for each row of the first coordinates, by the table of the last ones.
 fn add_point(point: Point, scale: Element, out: &mut [u32])
     requires { Reduced scale × Elements 0 (2 ^ point.count) out.old }
     ensures { Gained 0 (2 ^ point.entry.count) (scaled_at scale (coordinates point.entry))
@@ -139,31 +138,10 @@ fn add_point(point: Point, scale: Element, out: &mut [u32])
     let low = point.count.min(BLOCK);
     let first = point.first(point.count - low);
     let rows = table::rows(low);
-    // By number: of a block that `chunks_exact_mut` lent only its length is known after the loop.
+    let room = weigh::block_of::<BLOCK_WORDS>(point, low, scale);
+    let block = &room[..4 * rows];
     for h in 0..table::rows(first.count) {
-        let seed = scale.mul(equality::at_row(first, h));
-        add_block(point, low, seed, h * rows, out);
-    }
-}
-
-// out gains, from place `from` on, seed eq of the last `low` coordinates.
-fn add_block(point: Point, low: usize, seed: Element, from: usize, out: &mut [u32])
-    requires { Reduced seed × (low ≤ point.count) × ((low ≤ block_variables) × Elements from (2 ^ low) out.old) }
-    ensures { Gained from (2 ^ low) (scaled_at seed (last low point.entry)) out.old out.new }
-{
-    let rows = table::rows(low);
-    let block = weigh::block_of::<BLOCK_WORDS>(point, low, seed);
-    add_table(&block, rows, from, out);
-}
-
-// out gains the first n elements of summands, from place `from` on.
-fn add_table(summands: &[u32], n: usize, from: usize, out: &mut [u32])
-    requires { Elements 0 n summands.now × Elements from n out.old }
-    ensures { Gained from n (element_at summands.now) out.old out.new }
-{
-    // By number: of words that `chunks_exact_mut` lent a proof knows, once they are back, the count and not the words.
-    for i in 0..n {
-        let sum = table::get(out, from + i).add(table::get(summands, i));
-        table::put(out, from + i, sum);
+        let seed = equality::at_row(first, h);
+        Multiplier::new(seed).gain(out, h * rows, block);
     }
 }

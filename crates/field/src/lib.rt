@@ -9,7 +9,7 @@ pub mod product;
 pub mod sums;
 pub mod word;
 
-ghost use Rattle.std.specs.Prelude.{◌≡◌, ◌<◌, ◌||◌, nat_le, slice_index};
+ghost use Rattle.std.specs.Prelude.{◌≡◌, ◌<◌, slice_index};
 ghost use Rattle.algebra.specs.Ring.{Ops, minus};
 ghost use Rattle.algebra.specs.Words.{unreduced};
 ghost use Rattle.field.specs.Field.{p, Reduced, field, base, at, from_words, Holds, ByWord};
@@ -162,16 +162,10 @@ impl fmt::Display for Element {
     }
 }
 
-// Refusal 5's test: a word of ws is not below the modulus. It reads on after such a word, so that the loop has one way through it.
+// Refusal 5's test: a word of ws is not below the modulus. By the largest word, which a loop of vectors finds with two instructions for four.
 pub fn unreduced(ws: &[u32]) -> bool
     ensures { result ≡ unreduced p ws.now }
 {
-    ws.iter().fold(false, |found, w| or_above(found, *w))
-}
-
-// What was found, or that w is not below the modulus; the test of words in bytes (`ward`) takes it too.
-pub fn or_above(found: bool, w: u32) -> bool
-    ensures { result ≡ found || nat_le p w }
-{
-    found | (Element::MODULUS <= w)
+    let largest = ws.iter().fold(0, |most, w| u32::max(most, *w));
+    Element::MODULUS <= largest
 }

@@ -15,9 +15,6 @@ pub const UNIT: u64 = 4294967296;
 // 2^32 modulo p.
 const UNIT_RESIDUE: u64 = 268435454;
 
-// 2^31: what is below 0, wrapped, is not below it. That is a test of one bit, which vectors of words have.
-const SIGN: u32 = 2147483648;
-
 pub fn add(a: u32, b: u32) -> u32
     requires { (a < p) × (b < p) }
     ensures { result ≡ (a + b) % p }
@@ -32,17 +29,14 @@ pub fn sub(a: u32, b: u32) -> u32
     less(a, b)
 }
 
-// a - b modulo p, where the difference is at least -p and below p.
+// a - b modulo p, where the difference is at least -p and below p. By no test: what is below 0, wrapped, is above what it is with p added. The
+// compiler has an instruction for the lesser of words, for four.
 pub fn less(a: u32, b: u32) -> u32
     requires { (a < b + p) × (b ≤ a + p) }
     ensures { (result < p) × ((result + b) % p ≡ a % p) }
 {
     let s = a.wrapping_sub(b);
-    if s < SIGN {
-        s
-    } else {
-        s.wrapping_add(Element::MODULUS)
-    }
+    u32::min(s, s.wrapping_add(Element::MODULUS))
 }
 
 pub fn neg(a: u32) -> u32

@@ -104,7 +104,7 @@ module _ {h at : ℕ} {ws w : List ℕ} (t : TwoHalves h ws) (d : Summing h at w
           first = parts_joined ws 0 at n d.first (rw zero-add (none_found e).0);
           second = parts_joined ws h at n d.second (none_found e).1;
           made = made_more d.made (omega arith) (omega arith) (paired field.add h w) m
-              (λ y l.
+              (λ y l k.
               ap₂ (λ a b. field.add (from_words a) (from_words b)) (later d.made y l) (later d.made (h + y) (omega arith)));
         }
 

@@ -1,10 +1,10 @@
 -- What the inner functions take and give. No operation that users call cites it. Assumes nothing.
-use Rattle.std.specs.Prelude.{◌≡◌, false, ℕ, ◌+◌, ◌*◌, ◌≤◌, ◌<◌, List, [], ◌∷◌, ◌++◌, length, take, drop}
+use Rattle.std.specs.Prelude.{◌≡◌, false, ℕ, ◌+◌, ◌-◌, ◌*◌, ◌≤◌, ◌<◌, List, [], ◌∷◌, ◌++◌, length, take, drop}
+use Rattle.algebra.specs.Ring.{minus}
 use Rattle.algebra.specs.Words.{unreduced}
 use Rattle.multilinear.specs.Beside.{line}
-use Rattle.field.specs.Field.{p, Ext, field, to_words, from_words, Reduced, Holds}
+use Rattle.field.specs.Field.{p, Ext, field, to_words, Reduced}
 use Rattle.field.specs.declared.Element.{Element}
-use Rattle.multiplier.specs.declared.Multiplier.{Multiplier}
 use Rattle.table.specs.Table.{table_words, entries, get_at, element_at}
 use Rattle.table.specs.Refusals.{Test, ◌gives◌, splits, not_power, too_many_variables}
 use Rattle.fixing.specs.Fixing.{Rule, Prefix, Suffix, Sum, Monomial, fixed_at}
@@ -28,6 +28,13 @@ combined Suffix a0 a1 r = line field a0 a1 r
 combined Sum a0 a1 r = field.add a0 a1
 combined Monomial a0 a1 r = field.add a0 (field.mul a1 r)
 
+-- what of the two r multiplies; a sum takes no r
+abbrev pub taken : Rule → Ext → Ext → Ext
+taken Prefix a0 a1 = minus field a1 a0
+taken Suffix a0 a1 = minus field a1 a0
+taken Sum a0 a1 = a1
+taken Monomial a0 a1 = a1
+
 -- the two of a table of 2h entries that become entry i
 abbrev pub pair_of : Rule → ℕ → ℕ → ℕ × ℕ
 pair_of Prefix h i = (i, h + i)
@@ -40,15 +47,6 @@ pub record TwoHalves (h : ℕ) (ws : List ℕ) : Type 0 where
   pub few : h < 2305843009213693952
   pub count : length ws ≡ 8 * h
 
--- steps that give the pairs of the rule, and make one of two by it
-pub record StepsBy (rule : Rule) (pair_pre : ℕ → ℕ → Type 0) (pair_post : ℕ → ℕ → ℕ × ℕ → Type 0)
-    (make_pre : Element → Element → Multiplier → Type 0) (make_post : Element → Element → Multiplier → Element → Type 0) : Type 0 where
-  pub asks : (h i : ℕ) → h < 2305843009213693952 → i < h → pair_pre h i
-  pub gives_pair : (h i : ℕ) (j : ℕ × ℕ) → pair_post h i j → j ≡ pair_of rule h i
-  pub makes : (a b : Element) (m : Multiplier) → Reduced a × Reduced b → make_pre a b m
-  pub gives_one : (a b : Element) (m : Multiplier) (e : Element) → make_post a b m e
-      → Holds e (combined rule (from_words a) (from_words b) (from_words m.r))
-
 -- all of them reduced
 pub record Halves (h : ℕ) (ws : List ℕ) : Type 0 where
   pub table : TwoHalves h ws
@@ -60,6 +58,25 @@ pub record Pairs (h from to : ℕ) (ws : List ℕ) : Type 0 where
   pub ordered : from ≤ to
   pub within : to ≤ h
   pub below : (i : ℕ) → from ≤ i → i < to → Reduced (get_at ws i) × Reduced (get_at ws (h + i))
+
+-- the pairs of n entries from entry `from` on, reduced
+pub record PairsBy (rule : Rule) (h from n : ℕ) (ws : List ℕ) : Type 0 where
+  pub table : TwoHalves h ws
+  pub within : from + n ≤ h
+  pub below : (i : ℕ) → from ≤ i → i < from + n → Reduced (get_at ws (pair_of rule h i).0) × Reduced (get_at ws (pair_of rule h i).1)
+
+-- n reduced elements
+pub record Summands (n : ℕ) (more : List ℕ) : Type 0 where
+  pub there : 4 * n ≤ length more
+  pub below : (i : ℕ) → i < n → Reduced (get_at more i)
+
+-- what r multiplies of the pair of entry i
+abbrev pub taken_at : Rule → ℕ → List ℕ → ℕ → Ext
+taken_at rule h ws i = taken rule (element_at ws (pair_of rule h i).0) (element_at ws (pair_of rule h i).1)
+
+-- the first of the pair of entry i, with its element of a part's `more`
+abbrev pub sum_at : Rule → ℕ → List ℕ → ℕ → List ℕ → ℕ → Ext
+sum_at rule h ws from more i = field.add (element_at ws (pair_of rule h i).0) (element_at more (i - from))
 
 -- n entries, from entry a on
 abbrev pub part : ℕ → ℕ → List ℕ → List ℕ

@@ -6,30 +6,33 @@
 // The second half keeps its words.
 #![tactic(auto)]
 
+mod parts;
+mod steps;
+
 ghost use Rattle.std.specs.Prelude.{◌≡◌, ◌||◌, ◌+◌, ◌*◌, ◌^◌, ◌≤◌, ◌<◌, length};
 ghost use Rattle.algebra.specs.Ring.{Ops, minus};
 ghost use Rattle.algebra.specs.Words.{unreduced};
-ghost use Rattle.field.specs.Field.{p, field, from_words, Reduced, Holds};
+ghost use Rattle.field.specs.Field.{p, field};
 ghost use Rattle.table.specs.Refusals.{answer, verdict, leaves};
-ghost use Rattle.fixing.specs.Fixing.{Rule, Prefix, Suffix, Sum, Monomial};
+ghost use Rattle.fixing.specs.Fixing.{Prefix, Suffix, Sum, Monomial};
 ghost use Rattle.fixing.specs.Fixing.{remaining_outcome, fix_tests, fix_answer, fix_out, sum_answer, sum_out};
 ghost use Rattle.fixing.specs.Inner.{size_tests, word_tests, TwoHalves, Pairs, Made, Combinable, Combined};
-ghost use Rattle.fixing.specs.Inner.{StepsBy, part, paired, pair_of, halved, combined};
+ghost use Rattle.fixing.specs.Inner.{part, paired, pair_of, halved};
 
 use field::Element;
 use multiplier::Multiplier;
+use steps::{MonomialStep, PrefixStep, Step, SuffixStep};
 use table::Refusal;
 
-// The most entries of a part.
+// The most entries of a part that is summed.
 const PART: usize = 128;
 
-// a0 + (a1 - a0) r over the two halves. The answer of each of these is the count of entries that remain, at the front. Each
-// gives a step of its own: the compiler copies a function that has one caller into the loop, of which it makes vectors.
+// a0 + (a1 - a0) r over the two halves. The answer of each of these is the count of entries that remain, at the front.
 pub fn fix_prefix_var_mut(entries: &mut [u32], r: Element) -> Result<usize, Refusal>
     ensures result_value { remaining_outcome result ≡ fix_answer entries.old r }
     ensures entries_after { entries.new ≡ fix_out Prefix entries.old r }
 {
-    fix(entries, r, halves, |a0, a1, m| line(a0, a1, m))
+    fix::<PrefixStep>(entries, r)
 }
 
 // a0 + (a1 - a0) r over neighbours.
@@ -37,7 +40,7 @@ pub fn fix_suffix_var_mut(entries: &mut [u32], r: Element) -> Result<usize, Refu
     ensures result_value { remaining_outcome result ≡ fix_answer entries.old r }
     ensures entries_after { entries.new ≡ fix_out Suffix entries.old r }
 {
-    fix(entries, r, neighbours, |a0, a1, m| line(a0, a1, m))
+    fix::<SuffixStep>(entries, r)
 }
 
 // a0 + a1 r over the two halves.
@@ -45,7 +48,7 @@ pub fn fix_prefix_var_mut_monomial(entries: &mut [u32], r: Element) -> Result<us
     ensures result_value { remaining_outcome result ≡ fix_answer entries.old r }
     ensures entries_after { entries.new ≡ fix_out Monomial entries.old r }
 {
-    fix(entries, r, halves, monomial)
+    fix::<MonomialStep>(entries, r)
 }
 
 // a0 + a1 over the two halves; a constant comes back unchanged.
@@ -64,29 +67,15 @@ pub fn sum_prefix_var_mut(entries: &mut [u32]) -> Result<usize, Refusal>
     Ok(n / 2)
 }
 
-// By which entries of the table are a pair, and what is made of them.
+// By a step: which entries of the table are a pair, and what of them r multiplies.
 #[tactic(auto, using(crate::proofs::FixingOutcomes::counts), unfolding(crate::specs::Fixing::fix_answer, crate::specs::Fixing::fix_out))]
-fn fix<P: Fn(usize, usize) -> (usize, usize), F: Fn(Element, Element, Multiplier) -> Element>(
-    entries: &mut [u32],
-    r: Element,
-    pair: P,
-    make: F,
-) -> Result<usize, Refusal>
-    ghost rule: { Rule }
-    requires { StepsBy rule (P.pre pair) (P.post pair) (F.pre make) (F.post make) }
+fn fix<S: Step>(entries: &mut [u32], r: Element) -> Result<usize, Refusal>
     ensures result_value { remaining_outcome result ≡ fix_answer entries.old r }
-    ensures entries_after { entries.new ≡ fix_out rule entries.old r }
+    ensures entries_after { entries.new ≡ fix_out S.rule entries.old r }
 {
     test_fix(entries, r)?;
     let h = entries.len() / 4 / 2;
-    let m = Multiplier::new(r);
-    let pair_at = move |i|
-        requires { P.pre pair h i }
-    { pair(h, i) };
-    let made = move |a0, a1|
-        requires { F.pre make a0 a1 m }
-    { make(a0, a1, m) };
-    combine(entries, h, pair_at, made);
+    parts::fix::<S>(entries, h, Multiplier::new(r));
     Ok(h)
 }
 
@@ -194,37 +183,11 @@ fn combine<P: Fn(usize) -> (usize, usize), F: Fn(Element, Element) -> Element>(
     }
 }
 
-// The pair of entry i of h: its own of each half, or neighbours.
+// The pair of entry i of h: its own of each half.
 #[inline(always)]
 fn halves(h: usize, i: usize) -> (usize, usize)
     requires { h + i < 2 ^ 64 }
     ensures { result ≡ pair_of Prefix h i }
 {
     (i, h + i)
-}
-
-#[inline(always)]
-fn neighbours(_h: usize, i: usize) -> (usize, usize)
-    requires { 2 * i + 1 < 2 ^ 64 }
-    ensures { result ≡ pair_of Suffix _h i }
-{
-    (2 * i, 2 * i + 1)
-}
-
-// a0 + (a1 - a0) r.
-#[inline(always)]
-fn line(a0: Element, a1: Element, m: Multiplier) -> Element
-    requires { Reduced a0 × Reduced a1 }
-    ensures { Holds result (combined Prefix (from_words a0) (from_words a1) (from_words m.r)) }
-{
-    m.plus(a0, a1.sub(a0))
-}
-
-// a0 + a1 r.
-#[inline(always)]
-fn monomial(a0: Element, a1: Element, m: Multiplier) -> Element
-    requires { Reduced a0 × Reduced a1 }
-    ensures { Holds result (combined Monomial (from_words a0) (from_words a1) (from_words m.r)) }
-{
-    m.plus(a0, a1)
 }

@@ -1,7 +1,7 @@
 -- What every line finds holds before the first line, and an accepted line of each kind keeps it. Assumes nothing.
 use mathlib.Core.Path.{◌≡◌, refl, ap, ◌∙◌}
 use mathlib.Core.Bool.{false}
-use Prim.Native.Nat.{ℕ, ◌*◌, ◌^◌, ◌≤◌, ◌<◌}
+use Prim.Native.Nat.{ℕ, ◌+◌, ◌*◌, ◌^◌, ◌≤◌, ◌<◌}
 use native.Mathlib.Omega.{arith}
 use mathlib.Core.List.{List}
 use lib.ListN.{length, take, drop, replicate, length-append, length-drop, length-replicate}
@@ -15,18 +15,16 @@ use Rattle.table.specs.Refusals.{most}
 use Rattle.table.proofs.Laws.{table_length}
 use Rattle.table.proofs.Parts.{unreduced_put}
 use Rattle.table.proofs.Tests.{unreduced_table}
-use Rattle.plan.specs.Plan.{width, gained_by}
+use Rattle.plan.specs.Plan.{width, capacity, gained_by}
 use Rattle.plan.specs.Sound as plan
 use Rattle.plan.proofs.OneColumn.{one_fits, one_width}
 use Rattle.padding.specs.Last.{missing_words, Keeps, Pads}
-use Rattle.padding.proofs.Lasting.{kept_on_length, kept_on_below}
 use Rattle.field.specs.declared.Element.{Element}
 use Rattle.frame.specs.declared.Opening.{Opening}
 use Rattle.frame.specs.declared.Frame.{Frame}
 use Rattle.frame.specs.declared.Frame.TheVariants.{Open, Coordinate, Words, Close}
 use Rattle.runs.specs.declared.Reader.{Reader}
-use Rattle.runs.specs.Reader.{most_places, started, opened, noted, counted, done, taken, used, gained, out_by, last_by, Ready, LastReady}
-use Rattle.frames.specs.Inner.{Takes}
+use Rattle.runs.specs.Reader.{most_places, started, opened, noted, counted, done, taken, used, gained, line_answer, out_by, Ready, LastReady}
 use Rattle.runs.proofs.Accepted.{Opens, Notes, Feeds}
 use Rattle.runs.proofs.Steps.{accepted}
 
@@ -107,12 +105,12 @@ module _ (r : Reader) (out : List ℕ) (d : Ready r out) where
     abbrev new : List ℕ
     new = gained_by r.session.plan r.session.taken words (take (used r) out)
 
-    gained_room : length (gained r words out) ≡ 4 * 2 ^ most_places
+    pub gained_room : length (gained r words out) ≡ 4 * 2 ^ most_places
     gained_room =
         let n : length new ≡ used r = table_length (width r.session.plan) _ in
         length-append new (drop (used r) out) ∙ omega (arith, n, length-drop (used r) out, used_fits d, d.room)
 
-    gained_below : unreduced p (gained r words out) ≡ false
+    pub gained_below : unreduced p (gained r words out) ≡ false
     gained_below =
         unreduced_append p new (drop (used r) out) (unreduced_table (width r.session.plan) _)
         (unreduced_drop p p_pos (used r) out d.out_below)
@@ -160,46 +158,29 @@ module _ (r : Reader) (out : List ℕ) (d : Ready r out) where
           out_below = unreduced_take p p_pos (used r) out d.out_below;
         }
 
--- what an `02` hands to `note`
-pub hands_coordinate : {r : Reader} {index : ℕ} {coordinate : Element} {out : List ℕ} → Takes r (Coordinate index coordinate) out
-    → (index ≡ r.came) × (index < most)
-hands_coordinate {r} {index} {coordinate} t =
-    let h = (accepted r (Some (Coordinate index coordinate)) t.accepted).1 in
-    (h.next, omega (arith, h.below, t.ready.sound.fits, t.ready.sound.small))
-
--- what an `03` says of its words
-pub feeds : {r : Reader} {words out : List ℕ} → Takes r (Words words) out → Feeds r words
-feeds {r} {words} t = (accepted r (Some (Words words)) t.accepted).1
-
--- and hands to the piece
-pub hands : {r : Reader} {words out : List ℕ} → Takes r (Words words) out
-    → plan.Takes r.session.plan r.session.taken words (take (used r) out)
-hands {r} {words} {out} t =
-    let h = feeds t in
+-- what words hand to the piece
+pub hands : {r : Reader} {out words : List ℕ} → Ready r out → {at : ℕ} → at + length words ≤ capacity r.session.plan
+    → unreduced p words ≡ false → plan.Takes r.session.plan at words (take (used r) out)
+hands {r} {out} d within below =
     record {
-      sound = t.ready.sound;
-      within = h.within;
-      piece_below = h.below;
-      room = length-take-le (used r) out (used_fits t.ready);
-      out_below = unreduced_take p p_pos (used r) out t.ready.out_below;
+      sound = d.sound;
+      within = within;
+      piece_below = below;
+      room = length-take-le (used r) out (used_fits d);
+      out_below = unreduced_take p p_pos (used r) out d.out_below;
     }
 
 -- an accepted line
-pub keeps : (f : Frame) {r : Reader} {out : List ℕ} (last : List ℕ) → Takes r f out → Ready (taken r (Some f)) (out_by r (Some f) out last)
-keeps (Open o) {r} {out} last t = opened_keeps r out t.ready o (accepted r (Some (Open o)) t.accepted).1
-keeps (Coordinate i e) {r} {out} last t = noted_keeps r out t.ready i e (accepted r (Some (Coordinate i e)) t.accepted).1
-keeps (Words ws) {r} {out} last t = counted_keeps r out t.ready ws (feeds t)
-keeps Close {r} {out} last t = done_keeps r out t.ready (missing_words r.session.plan r.session.taken last)
+module _ {r : Reader} {out : List ℕ} (d : Ready r out) where
+  -- what an `02` hands to `note`
+  pub hands_coordinate : (index : ℕ) (coordinate : Element) → line_answer r (Some (Coordinate index coordinate)) ≡ 0
+      → (index ≡ r.came) × (index < most)
+  hands_coordinate index coordinate a =
+      let h = (accepted r (Some (Coordinate index coordinate)) a).1 in
+      (h.next, omega (arith, h.below, d.sound.fits, d.sound.small))
 
-pub last_keeps : (f : Frame) {r : Reader} {out last : List ℕ} → Takes r f out → LastReady last → LastReady (last_by r (Some f) last)
-last_keeps (Open o) t l = l
-last_keeps (Coordinate i e) t l = l
-last_keeps (Words ws) {r} {out} {last} t l =
-    record { room = kept_on_length _ _ _ ws last ∙ l.room; below = kept_on_below _ _ _ ws last (feeds t).below l.below }
-last_keeps Close t l = l
-
--- what the code of a frame gives
-pub took : (f : Frame) {r : Reader} {out : List ℕ} (last : List ℕ) {x : Reader} {w : List ℕ} → Takes r f out → x ≡ taken r (Some f)
-    → w ≡ out_by r (Some f) out last
-    → Ready x w
-took f last t g h = rw (g, h) (keeps f last t)
+  pub keeps : (f : Frame) (last : List ℕ) → line_answer r (Some f) ≡ 0 → Ready (taken r (Some f)) (out_by r (Some f) out last)
+  keeps (Open o) last a = opened_keeps r out d o (accepted r (Some (Open o)) a).1
+  keeps (Coordinate i e) last a = noted_keeps r out d i e (accepted r (Some (Coordinate i e)) a).1
+  keeps (Words ws) last a = counted_keeps r out d ws (accepted r (Some (Words ws)) a).1
+  keeps Close last a = done_keeps r out d (missing_words r.session.plan r.session.taken last)

@@ -1,2 +1,4 @@
-pub mod Keeping
+mod Keeping
+mod Gathering
+mod Starting
 mod Turns

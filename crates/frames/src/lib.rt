@@ -1,4 +1,5 @@
-// One step of the program: a state and a frame give the next state, or a refusal, and out and the last word of each place.
+// The steps of the program: a state and a frame give the next state, or a refusal. The state is the reader, its sums and the last word of
+// each place; the words of `03` lines are gathered first, and added many at once.
 //
 //     Start --01--> Points --03--> Words --04--> Done
 //                     02 |  04       03
@@ -6,28 +7,211 @@
 // The coordinates come in `Points`, index 00 first and rising by one.
 #![tactic(auto)]
 
-ghost use Rattle.std.specs.Prelude.{◌≡◌, ◌<◌, IfOk, Some};
+ghost use Rattle.std.specs.Prelude.{◌≡◌, ◌+◌, ◌*◌, ◌^◌, ◌≤◌, ◌<◌, true, [], length, replicate, IfOk, Some};
 ghost use Rattle.table.specs.Refusals.{answer, verdict, most};
-ghost use Rattle.frame.specs.declared.Frame.TheVariants.{Words};
+ghost use Rattle.frame.specs.declared.Frame.TheVariants.{Words, Close};
 ghost use Rattle.padding.specs.Last.{missing_words};
-ghost use Rattle.runs.specs.Reader.{with_coordinate, session_by, missing, open_tests, coordinate_tests, words_tests, close_tests, frame_tests, shared_tests, started, opened, noted, counted, done, taken, gained, out_by, last_by, standing, turn, turned, out_after, last_after, Ready, LastReady};
-ghost use Rattle.runs.specs.Inner.{marked_as};
-ghost use Rattle.frames.specs.Inner.{InLimits, Takes};
+ghost use Rattle.runs.specs.Phases.{is_done};
+ghost use Rattle.runs.specs.Reader.{most_places, with_coordinate, session_by, missing, open_tests, coordinate_tests, words_tests, close_tests, frame_tests, shared_tests, line_answer, started, opened, noted, gained, Ready, LastReady};
+ghost use Rattle.runs.specs.Runs.{start};
+ghost use Rattle.frames.specs.After.{after_frame, after_accepted};
+ghost use Rattle.frames.specs.Inside.{most_gathered, with_gathered, Gathers};
+ghost use Rattle.frames.specs.Inner.{InLimits};
 
+use buffer::Buffer;
 use field::Element;
 use frame::{Frame, Opening};
 use ledger::Session;
 use multilinear::{Side, Weight};
 use plan::Plan;
 use runs::{Phase, Reader};
+use std::marker::Model;
 use table::Refusal;
 
 // 3: the most variables of out.
 pub const MOST_PLACES: usize = 10;
 
-// Before the first line.
+// The words of the sums of 2^10 elements.
+const OUT_WORDS: usize = 4096;
+
+// A word of each of 2^10 places.
+const LAST_WORDS: usize = 1024;
+
+// The most words that are gathered: so many are added in three times the time of 16.
+const MOST_GATHERED: usize = 1024;
+
+// The words that are gathered.
+type Gathered = Buffer<u32, MOST_GATHERED>;
+
+// What the lines so far left: the reader, which has counted all words; the sums and the last word of each place, of all words but the last
+// ones; and these, which are gathered.
+#[derive(Drop)]
+pub struct Run {
+    reader: Reader,
+    out: [u32; OUT_WORDS],
+    last: [u32; LAST_WORDS],
+    gathered: Gathered,
+}
+
+impl Model for Run {
+    ghost use Rattle.runs.specs.State.{State};
+
+    ghost Value = { State };
+
+    ghost use Rattle.frames.specs.Inside.{seen, Gathering};
+
+    ghost view = { seen };
+
+    ghost invariant = { Gathering };
+}
+
+impl Run {
+    // Before the first line.
+    pub fn new() -> Self
+        ensures { result ≡ start (replicate (4 * 2 ^ most_places) 0) (replicate (2 ^ most_places) 0) }
+    {
+        Run {
+            reader: started(),
+            out: [0u32; OUT_WORDS],
+            last: [0u32; LAST_WORDS],
+            gathered: Buffer::new(),
+        }
+    }
+
+    // One line's frame, or none. A refused one leaves all as it was.
+    pub fn step(&mut self, frame: Option<Frame>) -> Result<(), Refusal>
+        ensures result_value { answer result ≡ line_answer self.old.reader frame }
+        ensures state { self.new ≡ after_frame frame self.old }
+        ensures ready { Ready self.new.reader self.new.out }
+    {
+        let frame = test_place(self.reader.phase, frame)?;
+        test_frame(&self.reader, &frame)?;
+        self.take(frame);
+        Ok(())
+    }
+
+    // Its phase and its counts are those of all words, gathered or not.
+    pub fn reader(&self) -> &Reader
+        ensures { result.now ≡ self.now.reader }
+    {
+        &self.reader
+    }
+
+    // The sums, after `04`.
+    pub fn sums(&self) -> &[u32]
+        requires { is_done self.now.reader.phase ≡ true }
+        ensures { result.now ≡ self.now.out }
+    {
+        &self.out
+    }
+
+    // What an accepted line does.
+    fn take(&mut self, frame: Frame)
+        requires { line_answer self.old.reader (Some frame) ≡ 0 }
+        ensures state { self.new ≡ after_accepted frame self.old }
+        ensures ready { Ready self.new.reader self.new.out }
+    {
+        match frame {
+            Frame::Open(opening) => {
+                table::clear(&mut self.out);
+                self.reader = open(opening);
+            }
+            Frame::Coordinate { index, coordinate } => {
+                self.reader = note(self.reader, index, coordinate);
+            }
+            Frame::Words(words) => self.gather(words.as_slice()),
+            Frame::Close => self.close(),
+        }
+    }
+
+    // At `03`: the words are gathered behind those that are there.
+    fn gather(&mut self, words: &[u32])
+        requires accepted { line_answer self.old.reader (Some (Words words.now)) ≡ 0 }
+        requires few { length words.now ≤ most_gathered }
+        ensures state { self.new ≡ after_accepted (Words words.now) self.old }
+        ensures ready { Ready self.new.reader self.new.out }
+    {
+        make_room(
+            &self.reader,
+            words.len(),
+            &mut self.gathered,
+            &mut self.out,
+            &mut self.last,
+        );
+        self.gathered.extend(words);
+        self.reader.phase = Phase::Words;
+        self.reader.session.taken += words.len();
+    }
+
+    // At `04`: all words are added, and then the missing ones.
+    fn close(&mut self)
+        requires { line_answer self.old.reader (Some Close) ≡ 0 }
+        ensures state { self.new ≡ after_accepted Close self.old }
+        ensures ready { Ready self.new.reader self.new.out }
+    {
+        add_gathered(
+            &self.reader,
+            &mut self.gathered,
+            &mut self.out,
+            &mut self.last,
+        );
+        add_missing(&self.reader, &self.last, &mut self.out);
+        self.reader.phase = Phase::Done;
+    }
+}
+
+// Room for so many words more: where there is none, those that are there are added.
+fn make_room(
+    reader: &Reader,
+    more: usize,
+    gathered: &mut Gathered,
+    out: &mut [u32],
+    last: &mut [u32],
+)
+    requires gathers { Gathers reader.now gathered.old out.old last.old }
+    requires few { more ≤ most_gathered }
+    ensures same { with_gathered reader.now gathered.new out.new last.new
+        ≡ with_gathered reader.now gathered.old out.old last.old }
+    ensures gathers { Gathers reader.now gathered.new out.new last.new }
+    ensures room { length gathered.new + more ≤ most_gathered }
+{
+    if MOST_GATHERED - gathered.as_slice().len() < more {
+        add_gathered(reader, gathered, out, last);
+    }
+}
+
+// The gathered words go to their places, and the last one of each is kept; beneath the session's tests, since out and the record are the
+// program's own.
+fn add_gathered(reader: &Reader, gathered: &mut Gathered, out: &mut [u32], last: &mut [u32])
+    requires { Gathers reader.now gathered.old out.old last.old }
+    ensures same { with_gathered reader.now gathered.new out.new last.new
+        ≡ with_gathered reader.now gathered.old out.old last.old }
+    ensures gathers { Gathers reader.now gathered.new out.new last.new }
+    ensures none { gathered.new ≡ [] }
+{
+    let words = gathered.as_slice();
+    let plan = &reader.session.plan;
+    let from = reader.session.taken - words.len();
+    let used = 4 * plan.width();
+    piece::add(plan, from, words, &mut out[..used]);
+    padding::keep(plan, from, words, last);
+    gathered.clear();
+}
+
+// The missing words go to their places.
+fn add_missing(reader: &Reader, last: &[u32], out: &mut [u32])
+    requires ready { Ready reader.now out.old }
+    requires last_ready { LastReady last.now }
+    ensures { out.new ≡ gained reader.now (missing_words reader.now.session.plan reader.now.session.taken last.now) out.old }
+{
+    let plan = reader.session.plan;
+    let used = 4 * plan.width();
+    padding::pad(plan, reader.session.taken, last, &mut out[..used]);
+}
+
+// The reader before the first line.
 #[tactic(auto, unfolding(runs::specs::Reader::started))]
-pub fn start() -> Reader
+fn started() -> Reader
     ensures { result ≡ started }
 {
     Reader {
@@ -41,27 +225,6 @@ pub fn start() -> Reader
         }),
         came: 0,
     }
-}
-
-// One line's frame, or none. out has room for 2^10 elements, last for a word of as many places. What it requires holds of `start` with any
-// out of that size whose words are below p (`at_start` of proofs/Keeping.antt) and any such last, and each step gives it for the next.
-pub fn step(
-    reader: Reader,
-    frame: Option<Frame>,
-    out: &mut [u32],
-    last: &mut [u32],
-) -> Result<Reader, Refusal>
-    requires ready { Ready reader out.old }
-    requires last_ready { LastReady last.old }
-    ensures result_value { turn result reader ≡ turned reader frame }
-    ensures out_after { out.new ≡ out_after reader frame out.old last.old }
-    ensures last_after { last.new ≡ last_after reader frame last.old }
-    ensures ready { Ready (standing result reader) out.new }
-    ensures last_ready { LastReady last.new }
-{
-    let frame = test_place(reader.phase, frame)?;
-    test_frame(&reader, &frame)?;
-    Ok(take(reader, frame, out, last))
 }
 
 // 10, 12: the frame, where such a line may come.
@@ -138,27 +301,6 @@ fn lacks_coordinates(reader: &Reader) -> bool
     reader.came < reader.session.plan.k
 }
 
-// What an accepted line does.
-fn take(reader: Reader, frame: Frame, out: &mut [u32], last: &mut [u32]) -> Reader
-    requires takes { Takes reader frame out.old }
-    requires last_ready { LastReady last.old }
-    ensures value { result ≡ taken reader (Some frame) }
-    ensures out_after { out.new ≡ out_by reader (Some frame) out.old last.old }
-    ensures last_after { last.new ≡ last_by reader (Some frame) last.old }
-    ensures ready { Ready result out.new }
-    ensures last_ready { LastReady last.new }
-{
-    match frame {
-        Frame::Open(opening) => {
-            table::clear(out);
-            open(opening)
-        }
-        Frame::Coordinate { index, coordinate } => note(reader, index, coordinate),
-        Frame::Words(words) => feed(reader, words.as_slice(), out, last),
-        Frame::Close => close(reader, last, out),
-    }
-}
-
 // At `01`: the session of its arguments, every coordinate 0 as yet.
 fn open(opening: Opening) -> Reader
     ensures { result ≡ opened opening }
@@ -189,47 +331,6 @@ fn with_coordinate(session: Session, i: usize, coordinate: Element) -> Session
 {
     let mut next = session;
     table::put(&mut next.plan.coordinates, i, coordinate);
-    next
-}
-
-// The words go to their places, and the last one of each is kept; beneath the session's tests, since out and the record are the program's
-// own.
-fn feed(reader: Reader, words: &[u32], out: &mut [u32], last: &mut [u32]) -> Reader
-    requires takes { Takes reader (Words words.now) out.old }
-    requires last_ready { LastReady last.old }
-    ensures value { result ≡ counted reader words.now }
-    ensures out_after { out.new ≡ gained reader words.now out.old }
-    ensures last_after { last.new ≡ last_by reader (Some (Words words.now)) last.old }
-{
-    let taken = reader.session.taken;
-    let plan = &reader.session.plan;
-    let used = 4 * plan.width();
-    piece::add(plan, taken, words, &mut out[..used]);
-    padding::keep(plan, taken, words, last);
-    mark(reader, Phase::Words, taken + words.len())
-}
-
-// At `04`: the missing words go to their places.
-fn close(reader: Reader, last: &[u32], out: &mut [u32]) -> Reader
-    requires ready { Ready reader out.old }
-    requires last_ready { LastReady last.now }
-    ensures value { result ≡ done reader }
-    ensures out_after { out.new ≡ gained reader (missing_words reader.session.plan reader.session.taken last.now) out.old }
-{
-    let plan = reader.session.plan;
-    let taken = reader.session.taken;
-    let used = 4 * plan.width();
-    padding::pad(plan, taken, last, &mut out[..used]);
-    mark(reader, Phase::Done, taken)
-}
-
-// The same state in another phase, with so many words taken.
-fn mark(reader: Reader, phase: Phase, taken: usize) -> Reader
-    ensures { result ≡ marked_as reader phase taken }
-{
-    let mut next = reader;
-    next.phase = phase;
-    next.session.taken = taken;
     next
 }
 

@@ -1,2 +1,3 @@
 mod Mapping
-mod Weighing
+pub mod Weighing
+mod Placing

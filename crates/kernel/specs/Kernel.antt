@@ -1,10 +1,12 @@
 -- What the additions to out take and give. No operation that users call cites it. Assumes nothing.
-use Rattle.std.specs.Prelude.{◌≡◌, false, ℕ, ◌+◌, ◌-◌, ◌*◌, ◌≤◌, ◌<◌, List, [], length, get_or}
+use Rattle.std.specs.Prelude.{◌≡◌, false, ℕ, ◌+◌, ◌-◌, ◌*◌, ◌/◌, ◌≤◌, ◌<◌, List, [], length, get_or}
 use Rattle.std.specs.List.{All}
 use Rattle.algebra.specs.Sum.{sum_to}
 use Rattle.algebra.specs.Words.{unreduced}
 use Rattle.field.specs.Field.{p, Ext, field, base, from_words, Reduced}
 use Rattle.field.specs.declared.Element.{Element}
+use Rattle.lowering.specs.Lowering.{unit_inverse}
+use Rattle.table.specs.Table.{element_at, entries}
 
 -- reduced words, k for each of n elements of out from place `from` on
 -- A clause: a struct with out as `&mut` would be made for each call, and its fact shown again at each write through it.
@@ -46,3 +48,22 @@ row_at weight apart words i = field.mul (from_words weight) (base (get_or words 
 -- the k words of a place, each times its weight
 abbrev pub words_at : ℕ → List Element → List ℕ → ℕ → Ext
 words_at k weights words i = weighed k weights (λ t. get_or words (k * i + t) 0)
+
+-- weights of rows by fours, some and no more than 256, and the rows' words, all reduced, and an element of out for each word of a row
+-- A clause, as `Groups`.
+pub record Tabled (table words out : List ℕ) : Type 0 where
+  pub fours : length table ≡ 16 * (length table / 16)
+  pub some : 0 < length table
+  pub few : length table ≤ 1024
+  pub table_below : unreduced p table ≡ false
+  pub rows_are : Groups (length table / 4) 0 (entries out) out words
+  pub out_below : unreduced p out ≡ false
+
+-- the word of place i of row y by the row's weight
+unfoldable pub row_term : List ℕ → ℕ → List ℕ → ℕ → ℕ → Ext
+row_term table n words i y = field.mul (element_at table y) (base (get_or words (y * n + i) 0))
+
+-- what place i gains of all rows, divided by 2⁶⁴
+abbrev pub row_sum : List ℕ → ℕ → List ℕ → ℕ → Ext
+row_sum table n words i =
+    field.mul (sum_to field (length table / 4) (row_term table n words i)) (base (unit_inverse * unit_inverse))

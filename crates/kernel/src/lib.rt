@@ -1,9 +1,10 @@
 // Weighted words that are added to out, or that it is set to: with one residue a coordinate, or, four long rows and what out is set to, by
-// division by 2^32. There are four weights or fewer.
+// division by 2^32. There are four weights or fewer; of a table of more, rows are added in `places`.
 #![tactic(auto)]
 
+pub mod places;
 mod residues;
-mod steps;
+pub mod steps;
 
 ghost use Rattle.std.specs.Prelude.{◌≡◌, false, ◌-◌, ◌*◌, length};
 ghost use Rattle.algebra.specs.Words.{unreduced};

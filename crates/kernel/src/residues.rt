@@ -10,6 +10,9 @@ const RECIPROCAL: u64 = 2290649223;
 // 2^30, which times 2^32 is 2^62.
 const LOW: u64 = 1073741824;
 
+// 2^31: what is below 0, wrapped, is not below it.
+const SIGN: u32 = 2147483648;
+
 // Of a word and N products. One product leaves room for a quotient by products.
 pub fn residue<const N: usize>(sum: u64) -> u32
     requires { sum < 2 ^ 32 + N * ((p - 1) * (p - 1)) }
@@ -39,5 +42,19 @@ fn by_products(n: u64) -> u32
 {
     let quotient = n / LOW % word::UNIT * RECIPROCAL / word::UNIT;
     let left = n - quotient * (Element::MODULUS as u64);
-    word::less(left as u32, Element::MODULUS)
+    once(left as u32)
+}
+
+// Of a word below 2 p, by its highest bit less p: of this test the compiler makes vectors over places, and of the lesser of two only over
+// coordinates.
+fn once(a: u32) -> u32
+    requires { a < 2 * p }
+    ensures { result ≡ a % p }
+{
+    let s = a.wrapping_sub(Element::MODULUS);
+    if s < SIGN {
+        s
+    } else {
+        s.wrapping_add(Element::MODULUS)
+    }
 }

@@ -77,7 +77,7 @@ pub fn gained(old: Element, gain: Element) -> Element
 }
 
 // old, and coordinate k of each weight times its word. Four products and a word fit a u64.
-fn products<const N: usize>(
+pub fn products<const N: usize>(
     old: u32,
     weights: [Element; N],
     words: &[u32],

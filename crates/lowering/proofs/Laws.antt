@@ -35,3 +35,10 @@ base_one = refl
 
 pub raised_lowered : field.mul (base unit) (base unit_inverse) ≡ field.one
 raised_lowered = sym (base_mul unit unit_inverse) ∙ base_one
+
+-- and what is multiplied by 2³² twice, and by both inverses at once
+pub raised_twice : field.mul (field.mul (base unit) (base unit)) (base (unit_inverse * unit_inverse)) ≡ field.one
+raised_twice =
+    ap (λ x. field.mul x (base (unit_inverse * unit_inverse))) (sym (base_mul unit unit))
+    ∙ sym (base_mul (unit * unit % p) (unit_inverse * unit_inverse))
+    ∙ base_one

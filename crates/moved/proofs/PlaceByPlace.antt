@@ -1,6 +1,6 @@
 -- A piece added place by place: the places that have words of it, what each gains, and that the others gain nothing. Assumes nothing.
 use mathlib.Core.Path.{◌≡◌, refl, sym, ap, ap₂, ◌∙◌}
-use Prim.Native.Nat.{ℕ, suc, ◌+◌, ◌-◌, ◌*◌, ◌^◌, ◌/◌, ◌≤◌, ◌<◌}
+use Prim.Native.Nat.{ℕ, suc, ◌+◌, ◌-◌, ◌*◌, ◌^◌, ◌/◌, ◌≤◌, ◌<◌, min}
 use native.Mathlib.Decide.{dec_lt}
 use native.Mathlib.Nat.{mul_comm, add-mul, mul-le-mul_left, mul-le-mul_right, le_of_mul-le-mul_right, lt_of_mul-lt-mul_right}
 use native.Mathlib.Nat.{div-mul-le_self, lt-div-mul-add, le_antisymm}
@@ -29,14 +29,15 @@ use Rattle.table.proofs.Parts.{after, after_length, after_word, after_below}
 use Rattle.table.proofs.Placed.{placed_before, placed_word, placed_after, placed_none}
 use Rattle.point.specs.Points.{coordinates}
 use Rattle.kernel.specs.Kernel.{Groups, weighed, words_at}
-use Rattle.weigh.specs.Weigh.{block_sum}
+use Rattle.weigh.specs.Weigh.{block_sum, block_variables}
+use Rattle.weigh.proofs.Filling.{served}
 use Rattle.weigh.specs.Blocks.{Fits, part_value}
 use Rattle.weigh.specs.declared.blocks.Piece.{Piece as Words}
 use Rattle.moved.specs.declared.Piece.{Piece}
 use Rattle.moved.specs.declared.places.Blocks.{Blocks}
 use Rattle.moved.specs.Moved.{Adds, table_word, moved_by}
 use Rattle.moved.specs.Weighed.{weight_of, Weighed}
-use Rattle.moved.specs.Inner.{Reached, Wholes, GainedIn, Cuts}
+use Rattle.moved.specs.Inner.{Served, Reached, Wholes, GainedIn, Cuts}
 use Rattle.moved.proofs.Moving.{skip_small}
 use Rattle.moved.proofs.PlaceSums.{block_sum_lem, row_sum, weighed_lem}
 
@@ -243,7 +244,7 @@ module _ (piece : Piece) where
           go (yes h) = rw (lt-ltb (y + skip) (2 ^ k) h) (c.each y (omega (arith, r)) ∙ ap word (omega (arith, same i)))
           go (no h) = rw (le-ltb (y + skip) (2 ^ k) (omega arith)) (placed_after cut.from cut.words.now y (omega (arith, c.fits, r)))
 
-module _ (s : Blocks) where
+module _ {size : ℕ} (s : Blocks size) where
   abbrev piece : Piece
   piece = s.piece
 
@@ -252,7 +253,7 @@ module _ (s : Blocks) where
 
   -- a block's table that has all rows
   whole_block : s.split.low ≡ piece.point.count → (y : ℕ) → y < 2 ^ piece.point.count
-      → element_at s.split.block.now y ≡ field.mul (from_words piece.scale) (eq_at field (coordinates piece.point) y)
+      → element_at s.split.block.table.now y ≡ field.mul (from_words piece.scale) (eq_at field (coordinates piece.point) y)
   whole_block e y h =
       let q : piece.point.count - s.split.low ≡ 0 = omega (arith, e) in
       s.blocked.block_is.holds y (rw e h)
@@ -267,7 +268,7 @@ module _ (s : Blocks) where
         go (yes h) = let m : 2 ^ 3 ≤ 2 ^ piece.point.count = pow_mono h in absurd (omega (arith, r, few))
         go (no h) = omega (arith, s.blocked.low_fits, s.blocked.enough)
 
-    pub block_room : rows ≤ 4 → 4 * rows ≤ length s.split.block.now
+    pub block_room : rows ≤ 4 → 4 * rows ≤ length s.split.block.table.now
     block_room few =
         let e : 2 ^ s.split.low ≡ 2 ^ piece.point.count = ap (λ n. 2 ^ n) (low_is few) in
         omega (arith, e, r, s.split.summed.room.enough)
@@ -283,7 +284,7 @@ module _ (s : Blocks) where
         place_is =
             ap₂ (λ ws n.
             value_at field (elements ws 0 n)
-            (block_sum s.split.low s.split.block.now (λ y. base (placed cut.from cut.words.now y))))
+            (block_sum s.split.low s.split.block.table.now (λ y. base (placed cut.from cut.words.now y))))
             s.blocked.words s.blocked.count
             ∙ block_sum_lem piece.point.count piece.point.words.now _ piece.inner skip (table_word piece) i s.blocked.low_fits
             s.blocked.block_is _ (cut_row piece r q i cut c)
@@ -292,19 +293,19 @@ module _ (s : Blocks) where
 
       -- a place's words against the weights of its rows
       few_is : {n : ℕ} → rows ≡ n → n ≤ 4 → (i : ℕ)
-          → sum_to field n (λ z. field.mul (weight_of s.split.block.now skip z) (base (table_word piece (i * rows + z))))
+          → sum_to field n (λ z. field.mul (weight_of s.split.block.table.now skip z) (base (table_word piece (i * rows + z))))
           ≡ moved_by Suffix piece i
       unfolding moved_by
       few_is e h i =
           let m = sym e ∙ r in
-          ap₂ (λ m l. sum_to field m (λ z. field.mul (weight_of s.split.block.now skip z) (base (table_word piece (i * l + z))))) m r
-          ∙ row_sum piece.point.count piece.point.words.now _ piece.inner skip (table_word piece) i Suffix s.split.block.now
+          ap₂ (λ m l. sum_to field m (λ z. field.mul (weight_of s.split.block.table.now skip z) (base (table_word piece (i * l + z))))) m r
+          ∙ row_sum piece.point.count piece.point.words.now _ piece.inner skip (table_word piece) i Suffix s.split.block.table.now
           (skip_fits piece r q) (whole_block (low_is (omega (arith, e))))
           ∙ ap (λ n.
           moved_at field Suffix n piece.inner (coordinates piece.point) (from_words piece.scale) (λ t. base (table_word piece t)) i) q
 
       module _ {from to : ℕ} (w : Wholes piece from to) {x : ℕ} (ex : x ≡ from * rows - piece.taken) {out out' : List ℕ} where
-        pub places_gained : {n : ℕ} {weights : List Element} → rows ≡ n → n ≤ 4 → Weighed n s.split.block.now skip weights
+        pub places_gained : {n : ℕ} {weights : List Element} → rows ≡ n → n ≤ 4 → Weighed n s.split.block.table.now skip weights
             → Gained from (to - from) (words_at n weights (after x piece.words.now)) out out' → GainedIn piece from to out out'
         places_gained {n} {weights} e few h d =
             gained_as _ d λ j l.
@@ -312,3 +313,13 @@ module _ (s : Blocks) where
             ap (weighed n weights) (λ i z. word_is piece r w ex (n * j + z) j z (ap (λ m. m + z) t) i)
             ∙ weighed_lem h (λ z. table_word piece ((from + j) * rows + z))
             ∙ few_is e few (from + j)
+
+-- a block of as many variables as the point has, and no more than n
+pub served_by : (piece : Piece) {n words low : ℕ} → 2 ≤ n → n ≤ block_variables → 4 * 2 ^ n ≡ words → low ≡ min piece.point.count n
+    → Served piece low words
+served_by piece t s e m =
+    record {
+      low_fits = omega (arith, m);
+      enough = omega (arith, m, t);
+      in_array = served s e (omega (arith, m));
+    }

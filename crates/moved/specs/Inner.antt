@@ -3,18 +3,16 @@ use Rattle.std.specs.Prelude.{◌≡◌, ℕ, ◌+◌, ◌-◌, ◌*◌, ◌^◌
 use Rattle.multilinear.specs.declared.Side.TheVariants.{Suffix}
 use Rattle.table.specs.Table.{placed}
 use Rattle.table.specs.Gained.{Gained}
-use Rattle.weigh.specs.Weigh.{block_variables}
+use Rattle.weigh.specs.Weigh.{InArray}
 use Rattle.weigh.specs.declared.blocks.Piece.{Piece as Words}
 use Rattle.moved.specs.declared.Piece.{Piece}
 use Rattle.moved.specs.Moved.{table_word, moved_by}
 
--- the table of a piece's last `low` coordinates, at least two where the point has two, fits in so many words, no more than a block's
+-- the table of a piece's last `low` coordinates, at least two where the point has two, in an array of so many words
 pub record Served (piece : Piece) (low words : ℕ) : Type 0 where
   pub low_fits : low ≤ piece.point.count
   pub enough : min piece.point.count 2 ≤ low
-  pub small : low ≤ block_variables
-  pub room : 4 * 2 ^ low ≤ words
-  pub few : words ≤ 4 * 2 ^ block_variables
+  pub in_array : InArray low words
 
 -- places that are there, none of them before the one that the piece starts in
 pub record Reached (piece : Piece) (from to : ℕ) : Type 0 where

@@ -19,6 +19,7 @@ ghost use Rattle.moved.specs.Weighed.{weight_of, Weighed};
 use field::Element;
 use multilinear::{Side, Weight};
 use point::Point;
+use weigh::blocks::SplitPoint;
 
 // A piece of a table of 2^k rows of `inner` words, where the point has k coordinates, and what the rows' weights are made of. The words are
 // the table's from word `taken` on.
@@ -38,6 +39,7 @@ pub struct Piece<'a> {
 impl<'a> Piece<'a> {
     ghost use Rattle.table.specs.Gained.{Gained};
     ghost use Rattle.moved.specs.Moved.{Adds, moved_by};
+    ghost use Rattle.moved.specs.Blocked.{Blocked};
 
     // Each row from `skip` on by the eq of the row `skip` before it. With one row, and where a row is one word, both sides are the same.
     pub fn add(&self, side: Side, out: &mut [u32])
@@ -48,6 +50,23 @@ impl<'a> Piece<'a> {
             self.by_rows(out);
         } else {
             self.by_places(out);
+        }
+    }
+
+    // The same, where what places are summed against was made before: pieces of one point and scale have the same.
+    pub fn add_by<const WORDS: usize>(
+        &self,
+        side: Side,
+        split: SplitPoint<'a, WORDS>,
+        out: &mut [u32],
+    )
+        requires { Adds self.now out.old × Blocked self.now split }
+        ensures { Gained 0 self.now.inner (moved_by side self.now) out.old out.new }
+    {
+        if self.inner == 1 || side == Side::Suffix {
+            self.by_split(split, out);
+        } else {
+            self.by_rows(out);
         }
     }
 

@@ -3,17 +3,23 @@ ghost use Rattle.std.specs.Prelude.{◌≡◌, ◌+◌, ◌*◌, ◌^◌, ◌≤
 ghost use Rattle.moved.specs.Blocked.{Blocked};
 
 use crate::Piece;
+use dots::spread;
 use std::ops::Range;
 use weigh::blocks::{self, SplitPoint};
 
-// A piece of fewer words is short: a small block serves.
+// The words from which on a piece is no longer short, then of a middle size, then long. A block's table costs as many products as it has
+// rows, and each block one: long pieces are worth large blocks.
 const SHORT: usize = 64;
+
+const MIDDLE: usize = 1024;
+
+const LONG: usize = 16384;
 
 // A piece, and what the words of its places are summed against.
 #[derive(Clone, Copy)]
-struct Blocks<'a> {
+struct Blocks<'a, const WORDS: usize> {
     piece: Piece<'a>,
-    split: SplitPoint<'a>,
+    split: SplitPoint<'a, WORDS>,
     ghost blocked: { Blocked piece split },
 }
 
@@ -32,22 +38,46 @@ impl<'a> Piece<'a> {
             return;
         }
         let k = self.point.count;
-        if self.words.len() < SHORT {
+        let n = self.words.len();
+        if n < SHORT {
             self.by_blocks::<{ weigh::SMALL_BLOCK_WORDS }>(k.min(weigh::SMALL_BLOCK), out);
+        } else if n < MIDDLE {
+            self.by_blocks::<{ weigh::SHORT_BLOCK_WORDS }>(k.min(weigh::SHORT_BLOCK), out);
+        } else if n < LONG {
+            self.by_blocks::<{ weigh::MIDDLE_BLOCK_WORDS }>(k.min(weigh::MIDDLE_BLOCK), out);
         } else {
-            self.by_blocks::<{ weigh::BLOCK_WORDS }>(block_variables(k, self.words.len()), out);
+            self.by_blocks::<{ weigh::BLOCK_WORDS }>(k.min(weigh::BLOCK), out);
         }
     }
 
-    // The same of a piece that has words, by blocks of `low` variables, each table in an array of WORDS words.
+    // The same of a piece that has words, by blocks of `low` variables, each table in an array of WORDS words. It stays a call: its rooms are in no
+    // frame of a piece that goes by rows.
+    #[inline(never)]
     fn by_blocks<const WORDS: usize>(&self, low: usize, out: &mut [u32])
         requires { (Adds self.now out.old × (0 < length self.now.words.now)) × Served self.now low WORDS }
         ensures { Gained 0 self.now.inner (moved_by Suffix self.now) out.old out.new }
     {
-        let block = weigh::block_of::<WORDS>(self.point, low, self.scale);
+        let table = weigh::block_of::<WORDS>(self.point, low, self.scale);
+        let mut spread = [0u64; WORDS];
+        spread::fill::<WORDS>(&mut spread, &table);
         let blocks = Blocks {
             piece: *self,
-            split: SplitPoint::of(self.point, low, &block),
+            split: SplitPoint::<WORDS>::of(self.point, low, &table, &spread),
+        };
+        blocks.add_places(out);
+    }
+
+    // The same against a split point that was made before.
+    pub(crate) fn by_split<const WORDS: usize>(&self, split: SplitPoint<'a, WORDS>, out: &mut [u32])
+        requires { Adds self.now out.old × Blocked self.now split }
+        ensures { Gained 0 self.now.inner (moved_by Suffix self.now) out.old out.new }
+    {
+        if self.words.len() == 0 {
+            return;
+        }
+        let blocks = Blocks {
+            piece: *self,
+            split,
         };
         blocks.add_places(out);
     }
@@ -73,20 +103,7 @@ impl<'a> Piece<'a> {
     }
 }
 
-// A block's table costs as many products as it has rows, and each block one: long pieces are worth large blocks.
-fn block_variables(k: usize, len: usize) -> usize
-    ensures { (result ≤ k) × (min k 2 ≤ result) × (result ≤ 8) }
-{
-    if len < 1024 {
-        return usize::min(k, 4);
-    }
-    if len < 16384 {
-        return usize::min(k, 6);
-    }
-    usize::min(k, weigh::BLOCK)
-}
-
-impl<'a> Blocks<'a> {
+impl<'a, const WORDS: usize> Blocks<'a, WORDS> {
     ghost use Rattle.multilinear.specs.declared.Side.TheVariants.{Suffix};
     ghost use Rattle.table.specs.Gained.{Gained};
     ghost use Rattle.moved.specs.Moved.{Adds, moved_by};
@@ -143,7 +160,7 @@ impl<'a> Blocks<'a> {
         ensures { GainedIn self.now.piece range.start range.end out.old out.new }
     {
         let skip = crate::skip_of(self.piece.weight);
-        let weights = crate::weights_of::<N>(self.split.block, skip);
+        let weights = crate::weights_of::<N>(self.split.block.table, skip);
         let a = range.start * table::rows(self.piece.point.count) - self.piece.taken;
         let n = range.end - range.start;
         kernel::gain_groups(out, range.start, &self.piece.words[a..], n, weights);

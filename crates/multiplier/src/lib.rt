@@ -10,6 +10,8 @@
 // compiler makes vectors; `plus_by` takes r and t as they are, and divides by p.
 #![tactic(auto)]
 
+mod tables;
+
 ghost use Rattle.std.specs.Prelude.{◌≡◌, ◌+◌, ◌*◌, ◌%◌, ◌<◌};
 ghost use Rattle.algebra.specs.Ring.{Ops};
 ghost use Rattle.field.specs.Field.{p, factor, Reduced, field, base, from_words, Holds};

@@ -1,4 +1,4 @@
 mod Adding
 pub mod Fronts
 mod BySection
-mod FewRows
+pub mod FewRows

@@ -27,7 +27,7 @@ pub fn by_weights<const N: usize>(plan: &Plan, table: &[u32], out: &mut [u32])
 }
 
 // The weights of N rows: as the rows are moved, and at the own row the last element of the block's table beside that.
-fn weights_of<const N: usize>(block: &[u32], weight: Weight) -> [Element; N]
+pub fn weights_of<const N: usize>(block: &[u32], weight: Weight) -> [Element; N]
     requires few { (0 < N) × (N ≤ 4) }
     requires block { (4 * N ≤ length block.now) × (unreduced p block.now ≡ false) }
     ensures { RowWeights N block.now weight result }

@@ -4,7 +4,7 @@
 //              and    scale eq of the last row times the own row's word, where it has one   `own`
 #![tactic(auto)]
 
-mod few_rows;
+pub mod few_rows;
 mod own;
 mod sections;
 
@@ -14,11 +14,13 @@ ghost use Rattle.field.specs.Field.{p};
 ghost use Rattle.point.specs.Points.{coordinates};
 ghost use Rattle.plan.specs.Plan.{width, capacity, coordinates_of, fold_of, gained_by};
 ghost use Rattle.plan.specs.Sound.{Sound, Takes, Fills};
+ghost use Rattle.piece.specs.Against.{Against};
 
 use moved::Piece;
 use multilinear::Side;
 use plan::Plan;
 pub use sections::HELD;
+use weigh::blocks::SplitPoint;
 
 // out gains scale weight word at each word's place. It stays a call: copied into a caller that goes line by line, it copies the plan more often.
 #[inline(never)]
@@ -32,11 +34,32 @@ pub fn add(plan: &Plan, taken: usize, piece: &[u32], out: &mut [u32])
     own::add_own(side, &piece, out);
 }
 
+// The same, where what places are summed against was made before: pieces of one plan have the same.
+#[inline(never)]
+pub fn add_by<const WORDS: usize>(
+    plan: &Plan,
+    split: SplitPoint<WORDS>,
+    taken: usize,
+    piece: &[u32],
+    out: &mut [u32],
+)
+    requires takes { Takes plan.now taken piece.now out.old }
+    requires against { Against plan.now split }
+    ensures { out.new ≡ gained_by plan.now taken piece.now out.old }
+{
+    let piece = piece_of(plan, taken, piece);
+    let side = plan.side;
+    piece.add_by(side, split, out);
+    own::add_own(side, &piece, out);
+}
+
 // A piece of a plan's table, whose rows have c words for each place.
 fn piece_of<'a>(plan: &'a Plan, taken: usize, words: &'a [u32]) -> Piece<'a>
     requires sound { Sound plan.now }
     requires within { taken + length words.now ≤ capacity plan.now }
     requires below { unreduced p words.now ≡ false }
+    ensures point_words { result.point.words.now ≡ plan.now.coordinates }
+    ensures point_count { result.point.count ≡ plan.now.k }
     ensures point { coordinates result.point ≡ coordinates_of plan.now }
     ensures weight { result.weight ≡ plan.now.weight }
     ensures scale { result.scale ≡ plan.now.scale }

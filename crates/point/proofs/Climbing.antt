@@ -1,14 +1,14 @@
 -- The loop of `at_row` and of `from_row` at coordinate j of k: how it starts, steps and ends. Assumes nothing.
-use mathlib.Core.Path.{◌≡◌, refl, sym, ap, ◌∙◌}
-use Prim.Native.Nat.{ℕ, ◌+◌, ◌-◌, ◌^◌, ◌/◌, ◌%◌, ◌≤◌, ◌<◌}
+use mathlib.Core.Path.{◌≡◌, refl, sym, ap, ap₂, ◌∙◌}
+use Prim.Native.Nat.{ℕ, ◌+◌, ◌-◌, ◌*◌, ◌^◌, ◌/◌, ◌%◌, ◌≤◌, ◌<◌}
 use native.Mathlib.Nat.{div-one}
 use native.Mathlib.Omega.{arith}
 use mathlib.Core.List.{List, [], ◌∷◌}
 use lib.ListN.{length}
 use lib.Pow.{shr-shr}
-use Rattle.field.specs.Field.{Ext, field, from_words, Holds}
+use Rattle.field.specs.Field.{Ext, field, to_words, from_words, Holds}
 use Rattle.field.specs.declared.Element.{Element}
-use Rattle.field.proofs.Laws.{read_as}
+use Rattle.field.proofs.Laws.{field_ring, holds, read_back, read_as}
 use Rattle.table.specs.Table.{element_at, elements}
 use Rattle.table.proofs.Laws.{elements_length}
 use Rattle.multilinear.specs.Equality.{bit, for_bit, eq_at}
@@ -59,3 +59,39 @@ module _ {value_of : List Ext → ℕ → Ext} {step : ℕ → Ext → Ext → E
 
   pub finish : (left j : ℕ) (e : Element) → Climbing value_of ps k row left j e → j ≡ 0 → Holds e (value_of (elements ps 0 k) row)
   finish left j e d z = rw (rest_all ps k j z) at d.value
+
+-- two coordinates of a product at once, and the last one alone where the count is odd
+module _ (ps : List ℕ) (k row : ℕ) where
+  abbrev pub Product : (left j : ℕ) → Element → Type 0
+  Product left j e = Climbing (eq_at field) ps k row left j e
+
+  holds_words : (x : Ext) → Holds (to_words x) x
+  holds_words x = holds x refl
+
+  pub all : {product : Element} {left : ℕ} → Holds product field.one → left ≡ row → k ≡ 2 * (k / 2) → Product left (2 * (k / 2)) product
+  all {product} {left} h q e = rw (← e, q) (start eq_climbs ps k row product h)
+
+  pub but_last : {c f one product : Element} {left : ℕ} → Holds one field.one → 0 < k → k ≡ 2 * (k / 2) + 1 → Holds c (element_at ps (k - 1))
+      → Holds f (for_bit field (row % 2) (from_words c)) → product ≡ f → left ≡ row / 2 → Product left (2 * (k / 2)) product
+  but_last {c} {f} {one} {product} {left} o h e a b q s =
+      let place : k - 1 ≡ 2 * (k / 2) = omega arith in
+      let only : field.mul (for_bit field (row % 2) (from_words c)) (from_words one) ≡ for_bit field (row % 2) (from_words c) =
+      ap (field.mul (for_bit field (row % 2) (from_words c))) (read_as _ o) ∙ field_ring.mul_one _ in
+      rw (q, s, ← place) (turn eq_climbs ps k row row k one (start eq_climbs ps k row one o) h c a (rw only b))
+
+  module _ {left i : ℕ} {e : Element} (d : Product left (2 * i) e) (b : 0 < i) where
+    pub two : {c1 c0 low high both r : Element} → Holds c1 (element_at ps (2 * (i - 1) + 1)) → Holds c0 (element_at ps (2 * (i - 1)))
+        → Holds low (for_bit field (left % 2) (from_words c1)) → Holds high (for_bit field (left / 2 % 2) (from_words c0))
+        → Holds both (field.mul (from_words high) (from_words low)) → Holds r (field.mul (from_words both) (from_words e))
+        → Product (left / 4) (2 * (i - 1)) r
+    two {c1} {c0} {low} {high} {both} {r} h1 h0 f1 f0 m p =
+        let second : 2 * (i - 1) + 1 ≡ 2 * i - 1 = omega arith in
+        let first : 2 * i - 1 - 1 ≡ 2 * (i - 1) = omega arith in
+        let bits : left / 2 / 2 ≡ left / 4 = omega arith in
+        let one_more = turn eq_climbs ps k row left (2 * i) e d (omega arith) c1 (rw second at h1) (holds_words _) in
+        let x = for_bit field (left / 2 % 2) (from_words c0) in
+        let y = for_bit field (left % 2) (from_words c1) in
+        let grouped : field.mul (from_words both) (from_words e) ≡ field.mul x (from_words (to_words (field.mul y (from_words e)))) =
+        ap (λ v. field.mul v (from_words e)) (read_as _ m ∙ ap₂ field.mul (read_as _ f0) (read_as _ f1))
+        ∙ field_ring.mul_assoc x y (from_words e) ∙ ap (field.mul x) (sym (read_back _)) in
+        rw (first, bits) at (turn eq_climbs ps k row (left / 2) (2 * i - 1) _ one_more (omega arith) c0 (rw first h0) (rw grouped at p))

@@ -1,5 +1,8 @@
 pub mod Rest
 pub mod Coordinates
+mod Halving
+mod Spanning
+mod InBlocks
 mod Bits
 mod Climbing
 mod Doubling

@@ -14,6 +14,7 @@ ghost use Rattle.point.specs.Inner.{entering, Doubled, Doubles};
 ghost use Rattle.point.specs.Points.{coordinates};
 
 use crate::Point;
+use crate::blocks::{self, LOW};
 use field::Element;
 use multiplier::Multiplier;
 use table::Refusal;
@@ -119,18 +120,23 @@ fn for_bit(bit: usize, c: Element) -> Element
     c
 }
 
-// eq[row], from the last coordinate, which goes with the lowest bit, back to coordinate 0.
+// eq[row], from the last coordinate, which goes with the lowest bit, back to coordinate 0: two coordinates a turn, whose product does not wait
+// for those before.
 pub fn at_row(point: Point, row: usize) -> Element
     ensures { Holds result (eq_at field (coordinates point.entry) row) }
 {
     let mut product = Element::one();
     let mut left = row;
-    // By number, from the last coordinate back: `chunks_exact(4).rev()` would give four words, to be made an element as `read` does.
-    for j in (0..point.count).rev() {
-        let c = point.read(j);
-        let f = for_bit(left % 2, c);
-        product = f.mul(product);
+    if point.count % 2 == 1 {
+        product = for_bit(left % 2, point.read(point.count - 1));
         left /= 2;
+    }
+    // By number, from the last pair back: `chunks_exact(8).rev()` would give eight words, to be made elements as `read` does.
+    for i in (0..point.count / 2).rev() {
+        let low = for_bit(left % 2, point.read(2 * i + 1));
+        let high = for_bit(left / 2 % 2, point.read(2 * i));
+        product = high.mul(low).mul(product);
+        left /= 4;
     }
     product
 }
@@ -163,8 +169,21 @@ fn tail_step(bit: usize, c: Element, sum: Element) -> Element
     c.mul(sum)
 }
 
-// The table of scale eq in a bit order, by 2^k - 1 products: each of the k coordinates doubles it, as a new highest bit.
+// The table of scale eq in a bit order. One of many rows is made of two (`blocks`), of few by doubling.
 pub fn fill(out: &mut [u32], point: Point, order: BitOrder, scale: Element)
+    requires { Reduced scale × (length out.old ≡ 4 * 2 ^ point.count) }
+    ensures { out.new
+        ≡ table_words (2 ^ point.entry.count) (λ y. field.mul (from_words scale) (eq_by order (coordinates point.entry) y)) }
+{
+    if point.count <= LOW {
+        by_doubling(out, point, order, scale);
+    } else {
+        blocks::fill(out, point, order, scale);
+    }
+}
+
+// By 2^k - 1 products: each of the k coordinates doubles the table, as a new highest bit.
+pub(crate) fn by_doubling(out: &mut [u32], point: Point, order: BitOrder, scale: Element)
     requires { Reduced scale × (length out.old ≡ 4 * 2 ^ point.count) }
     ensures { out.new
         ≡ table_words (2 ^ point.entry.count) (λ y. field.mul (from_words scale) (eq_by order (coordinates point.entry) y)) }

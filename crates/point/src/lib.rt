@@ -5,6 +5,7 @@
 //     eq[y] = prod_i (z_i if bit_i(y) = 1 else 1 - z_i),   y = bit_0 bit_1 .. bit_{k-1} in binary
 #![tactic(auto)]
 
+mod blocks;
 pub mod equality;
 pub mod select;
 

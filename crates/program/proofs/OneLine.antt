@@ -7,15 +7,16 @@ use mathlib.Core.List.{List, [], ◌++◌}
 use lib.ListN.{length, length-append}
 use Rattle.std.specs.Prelude.{Option, Some, None, Result, Ok, Err}
 use Rattle.table.specs.declared.Refusal.{Refusal}
-use Rattle.table.specs.Refusals.{number, verdict}
+use Rattle.table.specs.Refusals.{number, answer, verdict}
 use Rattle.table.proofs.Answers.{number_some}
 use Rattle.frame.specs.declared.Frame.{Frame}
 use Rattle.frame.specs.declared.Frame.TheVariants.{Open, Coordinate, Words, Close}
 use Rattle.frame.specs.Frame.{frame_of}
 use Rattle.runs.specs.declared.Reader.{Reader}
 use Rattle.runs.specs.Phases.{is_done}
-use Rattle.runs.specs.Reader.{most_places, line_answer, taken, standing, turn, turned, out_after, last_after, Ready, LastReady}
+use Rattle.runs.specs.Reader.{most_places, line_answer, taken, turned, Ready}
 use Rattle.runs.specs.State.{State, step}
+use Rattle.frames.specs.After.{after_frame}
 use Rattle.program.specs.Printed.{unless_refused, refusal_line}
 use Rattle.program.specs.Blocks.{most_text, Feeding, Fed, is_refused, close_text}
 use Rattle.program.specs.Inside.{Goes}
@@ -60,26 +61,20 @@ module _ (r : Reader) (x : Option Frame) (accepted : line_answer r x ≡ 0) wher
   at_close out last = rw accepted (by_frame x out last)
 
 -- the held line's step
-pub record Stepped (s : Fed) (result : Result Reader Refusal) (out last : List ℕ) : Type 0 where
-  pub steps : turn result s.feeding.state.reader ≡ turned s.feeding.state.reader (frame_of s.feeding.held)
-  pub sums : out ≡ out_after s.feeding.state.reader (frame_of s.feeding.held) s.feeding.state.out s.feeding.state.last
-  pub words : last ≡ last_after s.feeding.state.reader (frame_of s.feeding.held) s.feeding.state.last
-  pub ready : Ready (standing result s.feeding.state.reader) out
-  pub last_ready : LastReady last
+pub record Stepped (s : Fed) (result : Result (Unit {0}) Refusal) (now : State) : Type 0 where
+  pub number_is : answer result ≡ line_answer s.feeding.state.reader (frame_of s.feeding.held)
+  pub steps : now ≡ step s.feeding.held s.feeding.state
+  pub ready : Ready now.reader now.out
 
-pub stepped : (s : Fed) (result : Result Reader Refusal) {x : Option Frame} {line out last : List ℕ} → x ≡ frame_of line
-    → line ≡ s.feeding.held → turn result s.feeding.state.reader ≡ turned s.feeding.state.reader x
-    → out ≡ out_after s.feeding.state.reader x s.feeding.state.out s.feeding.state.last
-    → last ≡ last_after s.feeding.state.reader x s.feeding.state.last
-    → Ready (standing result s.feeding.state.reader) out → LastReady last → Stepped s result out last
-stepped s result d l t o w r k =
+pub stepped : (s : Fed) (result : Result (Unit {0}) Refusal) {x : Option Frame} {line : List ℕ} {now : State} → x ≡ frame_of line
+    → line ≡ s.feeding.held → answer result ≡ line_answer s.feeding.state.reader x → now ≡ after_frame x s.feeding.state
+    → Ready now.reader now.out → Stepped s result now
+stepped s result d l n t r =
     let e = d ∙ ap frame_of l in
     record {
-      steps = t ∙ ap (turned s.feeding.state.reader) e;
-      sums = o ∙ ap (λ y. out_after s.feeding.state.reader y s.feeding.state.out s.feeding.state.last) e;
-      words = w ∙ ap (λ y. last_after s.feeding.state.reader y s.feeding.state.last) e;
+      number_is = n ∙ ap (line_answer s.feeding.state.reader) e;
+      steps = t ∙ ap (λ y. after_frame y s.feeding.state) e;
       ready = r;
-      last_ready = k;
     }
 
 module _ {s : Fed} (goes : Goes s) (on : s.feeding.stopped ≡ false) where
@@ -100,74 +95,58 @@ module _ {s : Fed} (goes : Goes s) (on : s.feeding.stopped ≡ false) where
   room_left : length s.text + cond (is_done r.phase) 5 most_text ≤ most_text
   room_left = let h : length s.text + cond false 0 (cond (is_done r.phase) 5 most_text) ≤ most_text = rw on at goes.room in h
 
-  -- the reader after it, whether it goes on, and the text
-  abbrev after : Reader → List ℕ → List ℕ → Bool → List ℕ → Fed
-  after reader out last stopped text =
-      record {
-        feeding = record { state = record { reader = reader; out = out; last = last }; stopped = stopped; held = [] };
-        text = text;
-      }
+  -- the state after it, whether it goes on, and the text
+  abbrev after : State → Bool → List ℕ → Fed
+  after now stopped text = record { feeding = record { state = now; stopped = stopped; held = [] }; text = text }
 
-  left_as : {result : Result Reader Refusal} {out last : List ℕ} → Stepped s result out last → {reader : Reader} → reader ≡ ahead.reader
-      → (stopped : Bool) → stopped ≡ is_refused (line_answer r x) → (text : List ℕ)
-      → text ≡ s.text ++ unless_refused (line_answer r x) (close_text x ahead) → after reader out last stopped text ≡ ended s
-  left_as st reads stopped e text t = rw (reads, st.sums, st.words, e, t) refl
+  left_as : {now : State} → now ≡ ahead → (stopped : Bool) → stopped ≡ is_refused (line_answer r x) → (text : List ℕ)
+      → text ≡ s.text ++ unless_refused (line_answer r x) (close_text x ahead) → after now stopped text ≡ ended s
+  left_as q stopped e text t = rw (q, e, t) refl
 
-  module _ (refusal : Refusal) {out last text : List ℕ} (st : Stepped s (Err refusal) out last)
+  module _ (refusal : Refusal) {now : State} {text : List ℕ} (st : Stepped s (Err refusal) now)
       (put : text ≡ s.text ++ refusal_line (number refusal)) where
-    numbered : number refusal ≡ line_answer r x
-    unfolding turned
-    numbered = ap (λ p. p.0) st.steps
-
-    stays : r ≡ (turned r x).1
-    stays = ap (λ p. p.1) st.steps
-
     no : (is_refused (line_answer r x) ≡ true)
         × (unless_refused (line_answer r x) (close_text x ahead) ≡ refusal_line (line_answer r x))
-    no = refused (line_answer r x) (λ z. number_some refusal (z ∙ sym numbered)) (close_text x ahead)
+    no = refused (line_answer r x) (λ z. number_some refusal (z ∙ sym st.number_is)) (close_text x ahead)
 
-    pub line_refused : after r out last true text ≡ ended s
+    pub line_refused : after now true text ≡ ended s
     line_refused =
-        left_as st stays true (sym no.0) text
-        (put ∙ ap (λ t. s.text ++ t) (ap refusal_line numbered ∙ sym no.1))
+        left_as st.steps true (sym no.0) text
+        (put ∙ ap (λ t. s.text ++ t) (ap refusal_line st.number_is ∙ sym no.1))
 
-  module _ (next : Reader) {out last : List ℕ} (st : Stepped s (Ok next) out last) where
+  module _ {now : State} (st : Stepped s (Ok tt) now) where
     accepted : line_answer r x ≡ 0
-    unfolding turned
-    accepted = sym (ap (λ p. p.0) st.steps)
-
-    reads : next ≡ (turned r x).1
-    reads = ap (λ p. p.1) st.steps
+    accepted = sym st.number_is
 
     -- it finds no text before it
     none_before : length s.text ≡ 0
     none_before = let h : length s.text + most_text ≤ most_text = rw (goes_on r x accepted) at room_left in omega arith
 
-    few_lines : length (done_text next out) + 5 ≤ most_text
+    few_lines : length (done_text now.reader now.out) + 5 ≤ most_text
     few_lines = let q : ◌≡◌ {A = ℕ} (33 * 2 ^ most_places) 33792 = refl in omega (arith, done_length st.ready)
 
-    pub out_fits : length s.text + length (done_text next out) ≤ most_text
+    pub out_fits : length s.text + length (done_text now.reader now.out) ≤ most_text
     out_fits = omega (arith, none_before, few_lines)
 
-    fits_on : length (done_text next out) + cond (is_done next.phase) 5 most_text ≤ most_text
-    fits_on = go (is_done next.phase) refl
+    fits_on : length (done_text now.reader now.out) + cond (is_done now.reader.phase) 5 most_text ≤ most_text
+    fits_on = go (is_done now.reader.phase) refl
       where
-        go : (d : Bool) → is_done next.phase ≡ d → length (done_text next out) + cond d 5 most_text ≤ most_text
+        go : (d : Bool) → is_done now.reader.phase ≡ d → length (done_text now.reader now.out) + cond d 5 most_text ≤ most_text
         go true e = few_lines
-        go false e = let q : length (done_text next out) ≡ 0 = ap length (sym (silent next e out)) in omega arith
+        go false e = let q : length (done_text now.reader now.out) ≡ 0 = ap length (sym (silent now.reader e now.out)) in omega arith
 
-    printed_as : done_text next out ≡ unless_refused (line_answer r x) (close_text x ahead)
+    printed_as : done_text now.reader now.out ≡ unless_refused (line_answer r x) (close_text x ahead)
     unfolding unless_refused
-    printed_as = rw (accepted, st.sums, reads) (sym (at_close r x accepted ahead.out ahead.last))
+    printed_as = rw (accepted, st.steps) (sym (at_close r x accepted ahead.out ahead.last))
 
-    module _ {text : List ℕ} (put : text ≡ s.text ++ done_text next out) where
-      pub line_accepted : after next out last false text ≡ ended s
+    module _ {text : List ℕ} (put : text ≡ s.text ++ done_text now.reader now.out) where
+      pub line_accepted : after now false text ≡ ended s
       unfolding is_refused
-      line_accepted = left_as st reads false (rw accepted refl) text (put ∙ ap (λ t. s.text ++ t) printed_as)
+      line_accepted = left_as st.steps false (rw accepted refl) text (put ∙ ap (λ t. s.text ++ t) printed_as)
 
-      pub accepted_goes : Goes (after next out last false text)
+      pub accepted_goes : Goes (after now false text)
       accepted_goes =
-          let size = length-append s.text (done_text next out) in
-          let room : length text + cond (is_done next.phase) 5 most_text ≤ most_text =
+          let size = length-append s.text (done_text now.reader now.out) in
+          let room : length text + cond (is_done now.reader.phase) 5 most_text ≤ most_text =
           rw put (omega (arith, none_before, fits_on, size)) in
-          record { ready = st.ready; last_ready = st.last_ready; few = omega arith; room = room }
+          record { few = omega arith; room = room }

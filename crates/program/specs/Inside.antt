@@ -1,7 +1,6 @@
 -- What a program holds, and what holds of it. Assumes nothing.
 use Rattle.std.specs.Prelude.{ℕ, ◌+◌, ◌≤◌, cond, length}
 use Rattle.frame.specs.Frame.{most_line}
-use Rattle.runs.specs.Reader.{Ready, LastReady}
 use Rattle.runs.specs.Phases.{is_done}
 use Rattle.program.specs.declared.Program.TheInside.{Inside}
 use Rattle.program.specs.Blocks.{most_text, Feeding, Fed}
@@ -9,7 +8,7 @@ use Rattle.program.specs.Blocks.{most_text, Feeding, Fed}
 abbrev pub seen : Inside → Fed
 seen p =
     record {
-      feeding = record { state = record { reader = p.reader; out = p.out; last = p.last }; stopped = p.stopped; held = p.line };
+      feeding = record { state = p.run; stopped = p.stopped; held = p.line };
       text = p.text;
     }
 
@@ -17,10 +16,8 @@ seen p =
 abbrev pub left : Feeding → ℕ
 left f = cond f.stopped 0 (cond (is_done f.state.reader.phase) 5 most_text)
 
--- the reader is ready for the next line, and text has room for what the lines may still print
+-- text has room for what the lines may still print
 pub record Goes (s : Fed) : Type 0 where
-  pub ready : Ready s.feeding.state.reader s.feeding.state.out
-  pub last_ready : LastReady s.feeding.state.last
   pub few : length s.feeding.held ≤ most_line
   pub room : length s.text + left s.feeding ≤ most_text
 

@@ -9,29 +9,20 @@ ghost use Rattle.program.specs.Blocks.{most_text, Fed, begun, line_ended, holdin
 ghost use Rattle.program.specs.Inner.{text_of, last_ended};
 
 use buffer::Buffer;
-use runs::Reader;
+use frames::Run;
 use std::marker::Model;
 use table::Refusal;
 
 mod text;
 
-// The words of the sums of 2^10 elements.
-const OUT_WORDS: usize = 4096;
-
-// A word of each of 2^10 places.
-const LAST_WORDS: usize = 1024;
-
 // The most text of a block: the lines of 2^10 elements, and a refusal's.
 pub const MOST_TEXT: usize = 33797;
 
-// What the lines so far left, the sums, the last word of each place, the bytes of the line that has not ended, whether no more are read,
-// and the text to print.
+// What the lines so far left, the bytes of the line that has not ended, whether no more are read, and the text to print.
 // `stopped` is a bool: a refused line and the end of the input alike set it, and the other fields stay as they are between the blocks.
 #[derive(Drop)]
 pub struct Program {
-    reader: Reader,
-    out: [u32; OUT_WORDS],
-    last: [u32; LAST_WORDS],
+    run: Run,
     line: Buffer<u8, { frame::MOST_LINE }>,
     stopped: bool,
     text: Buffer<u8, MOST_TEXT>,
@@ -55,9 +46,7 @@ impl Program {
         ensures { result ≡ record { feeding = begun; text = [] } }
     {
         Program {
-            reader: frames::start(),
-            out: [0u32; OUT_WORDS],
-            last: [0u32; LAST_WORDS],
+            run: Run::new(),
             line: Buffer::new(),
             stopped: false,
             text: Buffer::new(),
@@ -128,11 +117,8 @@ impl Program {
     {
         let frame = frame::decode(self.line.as_slice());
         self.line.clear();
-        match frames::step(self.reader, frame, &mut self.out, &mut self.last) {
-            Ok(next) => {
-                self.reader = next;
-                text::put_out(&next, &self.out, &mut self.text);
-            }
+        match self.run.step(frame) {
+            Ok(()) => text::put_out(&self.run, &mut self.text),
             Err(refusal) => {
                 self.stopped = true;
                 text::put_refusal(refusal, &mut self.text);
@@ -155,7 +141,7 @@ impl Program {
         ensures text { self.new.text ≡ self.old.text ++ closing self.old.feeding }
         ensures over { self.new.feeding.stopped ≡ true }
     {
-        if !self.stopped && !self.reader.phase.is_done() {
+        if !self.stopped && !self.run.reader().phase.is_done() {
             text::put_refusal(Refusal::Missing, &mut self.text);
         }
         self.stopped = true;

@@ -8,7 +8,7 @@ ghost use Rattle.program.specs.Inner.{done_text};
 
 use crate::MOST_TEXT;
 use buffer::Buffer;
-use runs::Reader;
+use frames::Run;
 use table::Refusal;
 
 const LINE_FEED: u8 = b'\n';
@@ -24,16 +24,17 @@ pub fn find_line_feed(bytes: &[u8]) -> Option<usize>
 }
 
 // After an accepted line: at `04` the out lines.
-pub fn put_out(reader: &Reader, out: &[u32], text: &mut Buffer<u8, MOST_TEXT>)
-    requires ready { Ready reader.now out.now }
-    requires room { length text.old + length (done_text reader.now out.now) ≤ most_text }
-    ensures { text.new ≡ text.old ++ done_text reader.now out.now }
+pub fn put_out(run: &Run, text: &mut Buffer<u8, MOST_TEXT>)
+    requires ready { Ready run.now.reader run.now.out }
+    requires room { length text.old + length (done_text run.now.reader run.now.out) ≤ most_text }
+    ensures { text.new ≡ text.old ++ done_text run.now.reader run.now.out }
 {
+    let reader = run.reader();
     if !reader.phase.is_done() {
         return;
     }
     let places = reader.session.plan.width();
-    put_elements(out, places, text);
+    put_elements(run.sums(), places, text);
 }
 
 // The lines of elements.

@@ -1,14 +1,13 @@
 -- The program's state and one step of it, a line (document 01, "Frames" and "Program, line by line"; document 02, request (b), for the
 -- coordinates, and (d), for the missing words). Assumes nothing.
-use Rattle.std.specs.Prelude.{◌≡◌, ℕ, ◌+◌, ◌-◌, ◌*◌, ◌^◌, ◌≤◌, Bool, false, not, List, [], ◌∷◌, ◌++◌, eqb, leb, ltb, length, take, drop, replicate, Option, Some, None, Result, Ok, Err}
+use Rattle.std.specs.Prelude.{◌≡◌, ℕ, ◌+◌, ◌-◌, ◌*◌, ◌^◌, ◌≤◌, Bool, false, not, List, [], ◌∷◌, ◌++◌, eqb, leb, ltb, length, take, drop, replicate, Option, Some, None}
 use Rattle.algebra.specs.Words.{unreduced}
 use Rattle.multilinear.specs.declared.Side.TheVariants.{Prefix}
 use Rattle.multilinear.specs.declared.Weight.TheVariants.{Plain}
 use Rattle.field.specs.Field.{p}
 use Rattle.field.specs.declared.Element.{Element}
 use Rattle.table.specs.Table.{put_at}
-use Rattle.table.specs.declared.Refusal.{Refusal}
-use Rattle.table.specs.Refusals.{answer, Test, ◌gives◌, verdict, leaves, most}
+use Rattle.table.specs.Refusals.{Test, ◌gives◌, verdict, leaves, most}
 use Rattle.plan.specs.declared.Plan.{Plan}
 use Rattle.plan.specs.Plan.{plan_of, width, capacity, gained_by}
 use Rattle.plan.specs.Sound.{Sound}
@@ -174,15 +173,6 @@ last_by r (Some (Open o)) last = last
 last_by r (Some (Coordinate index coordinate)) last = last
 last_by r (Some Close) last = last
 last_by r None last = last
-
--- the reader after a step: a refused one leaves it as it was
-abbrev pub standing : Result Reader Refusal → Reader → Reader
-standing (Ok next) r = next
-standing (Err refusal) r = r
-
--- a step's number, and the reader after it
-abbrev pub turn : Result Reader Refusal → Reader → ℕ × Reader
-turn result r = (answer result, standing result r)
 
 -- a line's number, and the state after it; a refused line changes nothing
 unfoldable pub turned : Reader → Option Frame → ℕ × Reader

@@ -1,2 +1,3 @@
 mod Scattering
 mod WholeRows
+mod LongRows

@@ -27,8 +27,8 @@ use Rattle.table.proofs.Parts.{after, after_word}
 use Rattle.table.proofs.Tests.{reduced_at}
 use Rattle.point.specs.declared.Point.{Point}
 use Rattle.point.specs.Points.{coordinates}
-use Rattle.kernel.specs.Kernel.{weighed, rows_at}
-use Rattle.scatter.specs.Scatter.{whole_rows, row_term}
+use Rattle.kernel.specs.Kernel.{weighed, rows_at, row_term}
+use Rattle.scatter.specs.Scatter.{whole_rows}
 
 -- a fold over two rows
 two : (inner : ℕ) (z w : Ext) (f : ℕ → Ext) (y : ℕ)

@@ -6,7 +6,7 @@ use Rattle.multilinear.specs.declared.Weight.TheVariants.{Plain}
 use Rattle.multilinear.specs.Folds.{fold_at}
 use Rattle.field.specs.Field.{p, Ext, field, base, from_words, Reduced}
 use Rattle.field.specs.declared.Element.{Element}
-use Rattle.table.specs.Table.{element_at, entries, placed}
+use Rattle.table.specs.Table.{entries, placed}
 use Rattle.table.specs.Gained.{Gained}
 use Rattle.table.specs.Refusals.{largest}
 use Rattle.point.specs.declared.Point.{Point}
@@ -40,7 +40,3 @@ pub record Weighs (weights words out : List ℕ) : Type 0 where
   pub weights_below : unreduced p weights ≡ false
   pub rows_are : Groups 32 0 (entries out) out words
   pub out_below : unreduced p out ≡ false
-
--- the word of place i of row y by the row's weight
-unfoldable pub row_term : List ℕ → ℕ → List ℕ → ℕ → ℕ → Ext
-row_term weights inner words i y = field.mul (element_at weights y) (base (get_or words (y * inner + i) 0))

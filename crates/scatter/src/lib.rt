@@ -1,14 +1,14 @@
 // Words in rows, scattered over their places: each place gains its words, each by the weight of its row.
 #![tactic(auto)]
 
-ghost use Rattle.std.specs.Prelude.{◌≡◌, false};
+ghost use Rattle.std.specs.Prelude.{◌≡◌, false, ◌^◌, ◌≤◌};
 ghost use Rattle.algebra.specs.Sum.{sum_to};
 ghost use Rattle.algebra.specs.Words.{unreduced};
 ghost use Rattle.field.specs.Field.{p, field, Reduced};
 ghost use Rattle.table.specs.Table.{entries};
 ghost use Rattle.table.specs.Gained.{Gained};
-ghost use Rattle.kernel.specs.Kernel.{Groups};
-ghost use Rattle.scatter.specs.Scatter.{Scatters, Scattered, whole_rows, Weighs, row_term};
+ghost use Rattle.kernel.specs.Kernel.{Groups, row_term};
+ghost use Rattle.scatter.specs.Scatter.{Scatters, Scattered, whole_rows, Weighs};
 
 use field::Element;
 use point::Point;
@@ -17,12 +17,19 @@ use point::equality::BitOrder;
 // The words of the weights of a block: four for each of its thirty-two rows.
 const BLOCK_WORDS: usize = 128;
 
+// The fewest words of a long row. With shorter ones `kernel::places` gains no more than the room for its sums takes.
+const LONG: usize = 64;
+
+// The words of the weights of long rows: four for each of up to 256 rows.
+const LONG_WORDS: usize = 1024;
+
 // The words stand in rows of as many words as out has elements, from word `at` on. The rows' weights, `weight` times eq of the
 // coordinates that are left, come from it coordinate by coordinate:
 //
 //     weight  ->  weight (1 - z) for the rows of the low half, weight z for those of the high half
 //
-// and whole rows of the last five coordinates go thirty-two at a time, a block, by a table of their weights.
+// and whole rows of the last coordinates go by a table of their weights: long ones of the last eight or so, up to 256 at a time, shorter ones
+// of the last five, thirty-two at a time, a block.
 pub fn scatter(words: &[u32], at: usize, rest: Point, weight: Element, out: &mut [u32])
     requires { Scatters at rest weight words.now out.old }
     ensures { Scattered at rest.entry weight words.now out.old out.new }
@@ -40,9 +47,15 @@ pub fn scatter(words: &[u32], at: usize, rest: Point, weight: Element, out: &mut
         four_rows(words, rest, weight, out);
         return;
     }
-    if left == 5 && words.len() == 32 * inner {
-        block_rows(words, rest, weight, out);
-        return;
+    if 5 <= left && left <= 8 && words.len() == table::rows(left) * inner {
+        if LONG <= inner {
+            long_rows(words, rest, weight, out);
+            return;
+        }
+        if left == 5 {
+            block_rows(words, rest, weight, out);
+            return;
+        }
     }
     let high = weight.mul(rest.read(0));
     let low = weight.sub(high);
@@ -75,7 +88,25 @@ fn four_rows(words: &[u32], rest: Point, weight: Element, out: &mut [u32])
     kernel::gain_rows(out, 0, words, out.len() / 4, weights);
 }
 
-// A block of thirty-two whole rows, by the table of their weights.
+// Long whole rows of five to eight coordinates, by the table of their weights times 2^64. It stays a call: its room is in no frame of `scatter`.
+#[inline(never)]
+fn long_rows(words: &[u32], rest: Point, weight: Element, out: &mut [u32])
+    requires some { (5 ≤ rest.count) × (rest.count ≤ 8) × Reduced weight }
+    requires rows { Groups (2 ^ rest.count) 0 (entries out.old) out.old words.now × (unreduced p out.old ≡ false) }
+    ensures { Gained 0 (entries out.old)
+        (whole_rows rest.entry weight (entries out.old) words.now)
+        out.old out.new }
+{
+    let mut room = [0u32; LONG_WORDS];
+    let weights = &mut room[..4 * table::rows(rest.count)];
+    let raised = lowering::raise(lowering::raise(weight));
+    point::equality::fill(weights, rest, BitOrder::Msb, raised);
+    kernel::places::gain_table(out, words, weights);
+}
+
+// A block of thirty-two whole rows, by the table of their weights. It stays a call too: copied into `scatter`, its loop makes that so long that
+// each call clears the room of what it may pass on.
+#[inline(never)]
 fn block_rows(words: &[u32], rest: Point, weight: Element, out: &mut [u32])
     requires five { (rest.count ≡ 5) × Reduced weight }
     requires rows { Groups 32 0 (entries out.old) out.old words.now × (unreduced p out.old ≡ false) }

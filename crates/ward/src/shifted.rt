@@ -85,7 +85,8 @@ impl<'a> Fold<'a> {
         table::refuse_if(field::unreduced(&self.scale.c), Refusal::Unreduced)
     }
 
-    // What an accepted call does.
+    // What an accepted call does. It stays a call: a refused one takes none of its room.
+    #[inline(never)]
     fn fill(&self, work: &mut [u8], out: &mut [u8])
         requires { Accepts self.now work.old out.old }
         ensures work_after { work.new ≡ octets (both_tables (words self.now.point.now) self.now.scale) }
@@ -110,18 +111,19 @@ impl<'a> Fold<'a> {
     }
 }
 
-// 5: a word of the bytes is not below p. It reads on after such a word, as `field::unreduced` does.
+// 5: a word of the bytes is not below p. By the largest word, as `field::unreduced` does.
 fn is_unreduced(bytes: &[u8]) -> bool
     ensures { result ≡ unreduced p (words bytes.now) }
 {
     let (fours, _) = bytes.as_chunks::<4>();
-    fours.iter().fold(
-        false,
-        |found, four| field::or_above(found, octets::word_at(four, 0)),
-    )
+    let largest = fours
+        .iter()
+        .fold(0, |most, four| u32::max(most, octets::word_at(four, 0)));
+    Element::MODULUS <= largest
 }
 
-// Both tables of the point, as bytes.
+// Both tables of the point, as bytes. It stays a call: its room is in no frame of the fold that follows.
+#[inline(never)]
 fn fill_tables(work: &mut [u8], point: Point, scale: Element)
     requires { Tables point scale work.old }
     ensures { work.new ≡ octets (work_words point.entry.count point.entry.words.now (from_words scale)) }

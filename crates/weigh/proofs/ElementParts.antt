@@ -19,7 +19,7 @@ use Rattle.weigh.specs.Blocks.{After, part_value_ext}
 use Rattle.weigh.proofs.TableHalves.{half_there as table_half, low_whole, high_whole, low_entry, high_entry}
 use Rattle.weigh.proofs.Splitting.{one_block, more, joined}
 
-module _ (a : SplitPoint) {ws : List ℕ} (entries : WholeTable 4 (a.high.count + a.low) ws) where
+module _ {size : ℕ} (a : SplitPoint size) {ws : List ℕ} (entries : WholeTable 4 (a.high.count + a.low) ws) where
   module _ (none : a.high.count ≡ 0) where
     abbrev rows : ℕ
     rows = length ws / 4
@@ -30,7 +30,7 @@ module _ (a : SplitPoint) {ws : List ℕ} (entries : WholeTable 4 (a.high.count 
     e : rows ≡ 2 ^ a.low
     e = omega (arith, count)
 
-    pub pairs : Pairs rows a.block.now ws
+    pub pairs : Pairs rows a.block.table.now ws
     pairs =
         record {
           few = omega (arith, e, pow_mono a.summed.small);
@@ -40,11 +40,11 @@ module _ (a : SplitPoint) {ws : List ℕ} (entries : WholeTable 4 (a.high.count 
           entries_below = entries.below;
         }
 
-    pub paired : {x : Element} → Holds x (sum_to field rows (λ y. field.mul (element_at a.block.now y) (element_at ws y)))
+    pub paired : {x : Element} → Holds x (sum_to field rows (λ y. field.mul (element_at a.block.table.now y) (element_at ws y)))
         → Holds x (part_value_ext a ws)
     paired d = one_block a (element_at ws) none (rw e at d)
 
-  module _ (left : a.high.count ≡ 0 → ⊥) {rest_is : SplitPoint} (is : After 1 a rest_is) {half : ℕ} (e : half ≡ 2 ^ (a.high.count - 1 + a.low)) where
+  module _ (left : a.high.count ≡ 0 → ⊥) {rest_is : SplitPoint size} (is : After 1 a rest_is) {half : ℕ} (e : half ≡ 2 ^ (a.high.count - 1 + a.low)) where
     abbrev one_less : a.high.count + a.low ≡ suc (a.high.count - 1 + a.low)
     one_less = more a left
 

@@ -4,6 +4,7 @@ use Prim.Native.Nat.{ℕ, ◌*◌, ◌^◌, ◌≤◌}
 use native.Mathlib.Omega.{arith}
 use mathlib.Core.List.{List, ◌++◌}
 use lib.ListN.{length, take, drop, replicate, length-append, length-replicate}
+use lib.Pow.{pow_mono}
 use lib.Seq.{length-take-le}
 use Rattle.algebra.proofs.Words.{unreduced_append, unreduced_drop, unreduced_zeros}
 use Rattle.multilinear.specs.Equality.{eq_at}
@@ -13,7 +14,17 @@ use Rattle.field.proofs.Laws.{read_back}
 use Rattle.table.specs.Table.{elements, table_words}
 use Rattle.table.proofs.Laws.{table_get, table_length}
 use Rattle.table.proofs.Tests.{unreduced_table}
-use Rattle.weigh.specs.Weigh.{BlockRoom, Block}
+use Rattle.weigh.specs.Weigh.{BlockRoom, Block, InArray, block_variables}
+
+-- a block of no more variables than n has room where one of n has
+pub served : {n words : ℕ} → n ≤ block_variables → 4 * 2 ^ n ≡ words → {low : ℕ} → low ≤ n → InArray low words
+served {n} s e l =
+    record {
+      small = omega (arith, s, l);
+      room = omega (arith, e, pow_mono l);
+      fours = omega (arith, e);
+      few = omega (arith, e, pow_mono s);
+    }
 
 -- cleared words for a block
 pub cleared : (n : ℕ) {low : ℕ} → 4 * 2 ^ low ≤ n → BlockRoom low (replicate n 0)

@@ -38,7 +38,7 @@ placed_further a from words y = go (dec_lt y from)
         ap (placed (a + from) words) q ∙ placed_word (a + from) words (y - from) ∙ sym (placed_word from words (y - from))
         ∙ ap (placed from words) r
 
-module _ (a : SplitPoint) {own : ℕ} (piece : Piece) (fits : Fits a piece) (is : InRow own a piece) {rows : ℕ} (e : rows ≡ 2 ^ (own + a.low)) where
+module _ {size : ℕ} (a : SplitPoint size) {own : ℕ} (piece : Piece) (fits : Fits a piece) (is : InRow own a piece) {rows : ℕ} (e : rows ≡ 2 ^ (own + a.low)) where
   abbrev words : List ℕ
   words = piece.words.now
 
@@ -63,7 +63,7 @@ module _ (a : SplitPoint) {own : ℕ} (piece : Piece) (fits : Fits a piece) (is 
   together : start + length words ≤ rows
   together = rw e is.together
 
-  pub own_fits : {rest : SplitPoint} → After before a rest → start + length words ≤ 2 ^ (rest.high.count + rest.low)
+  pub own_fits : {rest : SplitPoint size} → After before a rest → start + length words ≤ 2 ^ (rest.high.count + rest.low)
   own_fits r = rw (r.high.count, r.low, own_left, sym e) together
 
   abbrev us : List Ext
@@ -106,7 +106,7 @@ module _ (a : SplitPoint) {own : ℕ} (piece : Piece) (fits : Fits a piece) (is 
 
   -- the sums of the blocks
   abbrev sums : (ℕ → ℕ) → ℕ → Ext
-  sums word = block_sum a.low a.block.now (λ y. base (word y))
+  sums word = block_sum a.low a.block.table.now (λ y. base (word y))
 
   -- and the value of a row
   abbrev row_at : ℕ → Ext
@@ -118,7 +118,7 @@ module _ (a : SplitPoint) {own : ℕ} (piece : Piece) (fits : Fits a piece) (is 
   row_value h word q =
       value_ext field_ring vs _ _
       (λ l b. sum_ext field_ring (2 ^ a.low) _ _
-      (λ m c. ap (λ w. field.mul (element_at a.block.now m) (base w))
+      (λ m c. ap (λ w. field.mul (element_at a.block.table.now m) (base w))
       (ap (placed from words) (place l m) ∙ q _ (rw e (within own a.low l m (below l b) c)))))
     where
       below : (l : ℕ) → l < 2 ^ length vs → l < 2 ^ own
@@ -135,7 +135,7 @@ module _ (a : SplitPoint) {own : ℕ} (piece : Piece) (fits : Fits a piece) (is 
           ))
 
   empty_row : (h : ℕ) → ((t : ℕ) → t < rows → placed from words (h * rows + t) ≡ 0) → row_at h ≡ field.zero
-  empty_row h q = row_value h (λ t. 0) q ∙ no_words a.low a.block.now vs (λ t. 0) (λ t. refl)
+  empty_row h q = row_value h (λ t. 0) q ∙ no_words a.low a.block.table.now vs (λ t. 0) (λ t. refl)
 
   value_is : part_value a piece ≡ field.mul (eq_at field us row) (value_at field vs (sums (placed start words)))
   value_is =
@@ -144,11 +144,11 @@ module _ (a : SplitPoint) {own : ℕ} (piece : Piece) (fits : Fits a piece) (is 
       ∙ ap (field.mul (eq_at field us row)) (row_value row (placed start words) (λ t b. own_row t))
 
   -- the last coordinates' part is what was left
-  own_value : {rest : SplitPoint} → After before a rest → blocks_value rest (λ y. base (placed start words y))
+  own_value : {rest : SplitPoint size} → After before a rest → blocks_value rest (λ y. base (placed start words y))
       ≡ value_at field vs (sums (placed start words))
   own_value r = rw (after_value a r (λ y. base (placed start words y)), own_left) refl
 
-  pub in_row : {rest : SplitPoint} → After before a rest → {eq sum x : Element} → Holds eq (eq_at field us row)
+  pub in_row : {rest : SplitPoint size} → After before a rest → {eq sum x : Element} → Holds eq (eq_at field us row)
       → Holds sum (blocks_value rest (λ y. base (placed start words y))) → Holds x (field.mul (from_words eq) (from_words sum))
       → Holds x (part_value a piece)
   in_row r d-eq d-sum d = rw value_is (rw (read_as _ d-eq, read_as _ d-sum, own_value r) at d)

@@ -29,20 +29,23 @@ further : (n low h l : ℕ) → 2 ^ (n + low) + (h * 2 ^ low + l) ≡ (2 ^ n + h
 further n low h l = omega (arith, pow-add 2 n low, add-mul (2 ^ n) h (2 ^ low))
 
 -- against what is left of the high coordinates
-pub after_value : {k : ℕ} (a : SplitPoint) {rest : SplitPoint} → After k a rest → (f : ℕ → Ext)
-    → blocks_value rest f ≡ value_at field (elements a.high.words.now k (a.high.count - k)) (block_sum a.low a.block.now f)
+pub after_value : {k size : ℕ} (a : SplitPoint size) {rest : SplitPoint size} → After k a rest → (f : ℕ → Ext)
+    → blocks_value rest f ≡ value_at field (elements a.high.words.now k (a.high.count - k)) (block_sum a.low a.block.table.now f)
 after_value a r f = rw (r.low, r.block, rest_coordinates a.high r.high) refl
 
-module _ (a : SplitPoint) where
+pub some_left : {n : ℕ} → 0 < n → n ≡ 0 → ⊥
+some_left h e = omega (arith, h, e)
+
+module _ {size : ℕ} (a : SplitPoint size) where
   -- no coordinate is left: one block
   pub one_block : (f : ℕ → Ext) → a.high.count ≡ 0 → {x : Element}
-      → Holds x (sum_to field (2 ^ a.low) (λ l. field.mul (element_at a.block.now l) (f l))) → Holds x (blocks_value a f)
+      → Holds x (sum_to field (2 ^ a.low) (λ l. field.mul (element_at a.block.table.now l) (f l))) → Holds x (blocks_value a f)
   unfolding block_sum
   one_block f e d =
-      one_entry a.high.words.now 0 (block_sum a.low a.block.now f) e (rw (sum_ext field_ring (2 ^ a.low) _ _ (λ l b. first l)) d)
+      one_entry a.high.words.now 0 (block_sum a.low a.block.table.now f) e (rw (sum_ext field_ring (2 ^ a.low) _ _ (λ l b. first l)) d)
     where
-      first : (l : ℕ) → field.mul (element_at a.block.now l) (f (0 * 2 ^ a.low + l)) ≡ field.mul (element_at a.block.now l) (f l)
-      first l = ap (λ n. field.mul (element_at a.block.now l) (f n)) (omega arith)
+      first : (l : ℕ) → field.mul (element_at a.block.table.now l) (f (0 * 2 ^ a.low + l)) ≡ field.mul (element_at a.block.table.now l) (f l)
+      first l = ap (λ n. field.mul (element_at a.block.table.now l) (f n)) (omega arith)
 
   module _ (left : a.high.count ≡ 0 → ⊥) where
     -- the variables are one more than those of a half, and the rows twice those of a half
@@ -52,12 +55,16 @@ module _ (a : SplitPoint) where
     pub twice : 2 ^ (a.high.count + a.low) ≡ 2 ^ (a.high.count - 1 + a.low) + 2 ^ (a.high.count - 1 + a.low)
     twice = twice_half more
 
+    -- a coordinate less is left
+    pub falls : {rest : SplitPoint size} → After 1 a rest → rest.high.count < a.high.count
+    falls is = omega (arith, is.high.count, one_more left)
+
     -- the values of the halves, on the line at the first coordinate
-    module _ {rest : SplitPoint} (is : After 1 a rest) (f low_half high_half : ℕ → Ext)
+    module _ {rest : SplitPoint size} (is : After 1 a rest) (f low_half high_half : ℕ → Ext)
         (e0 : (y : ℕ) → y < 2 ^ (a.high.count - 1 + a.low) → low_half y ≡ f y)
         (e1 : (y : ℕ) → y < 2 ^ (a.high.count - 1 + a.low) → high_half y ≡ f (2 ^ (a.high.count - 1 + a.low) + y)) where
       abbrev sums : (ℕ → Ext) → ℕ → Ext
-      sums = block_sum a.low a.block.now
+      sums = block_sum a.low a.block.table.now
 
       low_sums : (h : ℕ) → h < 2 ^ (a.high.count - 1) → sums low_half h ≡ sums f h
       unfolding block_sum

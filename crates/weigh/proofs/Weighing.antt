@@ -39,7 +39,7 @@ module _ {k low : ℕ} (there : low ≤ k) {point block : List ℕ} {s : Ext} (b
       (rw (elements_length point (k - low) low) at (value_blocks field_ring us vs s (element_at block) f))
       b.holds
 
-module _ (point : Point) {low : ℕ} (there : low ≤ point.count) {block : List ℕ} {split : SplitPoint} (cut : Cut point low block split) where
+module _ (point : Point) {low : ℕ} (there : low ≤ point.count) {block : List ℕ} {size : ℕ} {split : SplitPoint size} (cut : Cut point low block split) where
   all : split.high.count + split.low ≡ point.count
   all = omega (arith, cut.count, cut.low)
 

@@ -1,6 +1,6 @@
 -- What `part`, `trimmed` and `halves` lend their calls, and what they give. Assumes nothing.
-use mathlib.Core.Path.{◌≡◌, sym, ap, ap₂, ◌∙◌}
-use Prim.Native.Nat.{ℕ, ◌+◌, ◌-◌, ◌*◌, ◌^◌, ◌≤◌}
+use mathlib.Core.Path.{◌≡◌, sym, ap, ◌∙◌}
+use Prim.Native.Nat.{ℕ, ◌+◌, ◌-◌, ◌*◌, ◌/◌, ◌^◌, ◌≤◌}
 use native.Mathlib.Nat.{zero-add}
 use native.Mathlib.Omega.{arith}
 use mathlib.Core.List.{List}
@@ -36,13 +36,13 @@ no_words low block zs word e =
     (λ h b. sum_ext field_ring (2 ^ low) _ _ (λ l c. absent (element_at block l) (e _)) ∙ sum_none field_ring (2 ^ low))
     ∙ value_none field_ring zs
 
-module _ (a : SplitPoint) (piece : Piece) where
+module _ {size : ℕ} (a : SplitPoint size) (piece : Piece) where
   abbrev words : List ℕ
   words = piece.words.now
 
   -- no word is there
   pub nothing : length words ≡ 0 → {x : Element} → Holds x field.zero → Holds x (part_value a piece)
-  nothing e d = rw (no_words a.low a.block.now (coordinates a.high) (word_of piece) (placed_none piece.from words e)) d
+  nothing e d = rw (no_words a.low a.block.table.now (coordinates a.high) (word_of piece) (placed_none piece.from words e)) d
 
   module _ (fits : Fits a piece) where
     -- no coordinate is left: a weight for each word that is there
@@ -53,42 +53,55 @@ module _ (a : SplitPoint) (piece : Piece) where
       few : piece.from + length words ≤ 2 ^ block_variables
       few = omega (arith, few_words, pow_mono a.summed.small)
 
-      pub weights_there : 4 * piece.from + 4 * length words ≤ length a.block.now
+      pub weights_there : 4 * piece.from + 4 * length words ≤ length a.block.table.now
       weights_there = omega (arith, few_words, a.summed.room.enough)
 
       abbrev weights : List ℕ
-      weights = take (4 * length words) (drop (4 * piece.from) a.block.now)
+      weights = take (4 * length words) (drop (4 * piece.from) a.block.table.now)
 
       pub dots : Dots weights words
       dots =
           record {
-            size = length-take-le (4 * length words) (drop (4 * piece.from) a.block.now)
-                (omega (arith, weights_there, length-drop (4 * piece.from) a.block.now));
+            size = length-take-le (4 * length words) (drop (4 * piece.from) a.block.table.now)
+                (omega (arith, weights_there, length-drop (4 * piece.from) a.block.table.now));
             few = omega (arith, few);
-            weights_below = unreduced_take p p_pos (4 * length words) _ (unreduced_drop p p_pos (4 * piece.from) a.block.now a.summed.room.below);
+            weights_below = unreduced_take p p_pos (4 * length words) _ (unreduced_drop p p_pos (4 * piece.from) a.block.table.now a.summed.room.below);
             words_below = piece.below;
           }
 
       abbrev product : ℕ → Ext
-      product y = field.mul (element_at a.block.now y) (base (word_of piece y))
+      product y = field.mul (element_at a.block.table.now y) (base (word_of piece y))
 
-      all_rows : sum_to field (length words) (λ y. field.mul (element_at weights y) (base (get_or words y 0)))
-          ≡ sum_to field (2 ^ a.low) product
+      abbrev lent_product : ℕ → Ext
+      lent_product y = field.mul (element_at a.block.table.now (piece.from + y)) (base (get_or words y 0))
+
+      all_rows : sum_to field (length words) lent_product ≡ sum_to field (2 ^ a.low) product
       all_rows =
           sum_ext field_ring (length words) _ _
-          (λ y b. ap₂ (λ e w. field.mul (from_words e) (base w))
-          (get_lent piece.from (length words) y a.block.now b) (sym (placed_word piece.from words y)))
+          (λ y b. ap (λ w. field.mul (element_at a.block.table.now (piece.from + y)) (base w)) (sym (placed_word piece.from words y)))
           ∙ sym
           (sum_middle field_ring (2 ^ a.low) piece.from (length words) product few_words
-          (λ y b. absent (element_at a.block.now y) (placed_before piece.from words y b))
-          (λ y b. absent (element_at a.block.now y) (placed_after piece.from words y b)))
+          (λ y b. absent (element_at a.block.table.now y) (placed_before piece.from words y b))
+          (λ y b. absent (element_at a.block.table.now y) (placed_after piece.from words y b)))
 
-      pub dotted : {x : Element} → Holds x (sum_to field (length words) (λ y. field.mul (element_at weights y) (base (get_or words y 0))))
-          → Holds x (part_value a piece)
+      -- the words are no more than the table's weights
+      pub rows_there : piece.from + length words ≤ size / 4
+      rows_there = omega (arith, few_words, a.summed.room.enough, a.block.same.whole.size)
+
+      pub dotted : {x : Element} → Holds x (sum_to field (length words) lent_product) → Holds x (part_value a piece)
       dotted d = one_block a (λ y. base (word_of piece y)) none (rw all_rows at d)
 
+      -- the weights lent
+      pub few_dotted : {x : Element}
+          → Holds x (sum_to field (length words) (λ y. field.mul (element_at weights y) (base (get_or words y 0))))
+          → Holds x (part_value a piece)
+      few_dotted d =
+          dotted
+          (rw (sum_ext field_ring (length words) _ lent_product
+          (λ y b. ap (λ e. field.mul (from_words e) (base (get_or words y 0))) (get_lent piece.from (length words) y a.block.table.now b))) at d)
+
     -- the words of the halves
-    module _ (left : a.high.count ≡ 0 → ⊥) {rest : SplitPoint} (is : After 1 a rest) {half : ℕ} (e : half ≡ 2 ^ (a.high.count - 1 + a.low))
+    module _ (left : a.high.count ≡ 0 → ⊥) {rest : SplitPoint size} (is : After 1 a rest) {half : ℕ} (e : half ≡ 2 ^ (a.high.count - 1 + a.low))
         {low high : Piece} (parts : Halves half piece low high) where
       pub low_fits : Fits rest low
       low_fits = rw (is.high.count, is.low, sym e) parts.low_fits

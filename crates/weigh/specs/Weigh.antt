@@ -1,5 +1,5 @@
 -- What the sums against eq take and give. No operation that users call cites it. Assumes nothing.
-use Rattle.std.specs.Prelude.{◌≡◌, false, ℕ, suc, ◌+◌, ◌-◌, ◌*◌, ◌^◌, ◌≤◌, ◌<◌, List, length, drop}
+use Rattle.std.specs.Prelude.{◌≡◌, false, ℕ, suc, ◌+◌, ◌-◌, ◌*◌, ◌/◌, ◌^◌, ◌≤◌, ◌<◌, List, length, drop}
 use Rattle.algebra.specs.Sum.{sum_to}
 use Rattle.algebra.specs.Words.{unreduced}
 use Rattle.multilinear.specs.Equality.{eq_at}
@@ -43,6 +43,13 @@ pub record Summed (high low : ℕ) (block : List ℕ) : Type 0 where
   pub few : high + low ≤ most
   pub small : low ≤ block_variables
   pub room : BlockRoom low block
+
+-- the table of a block of low variables has room in an array of so many words, no more than the largest block's
+pub record InArray (low words : ℕ) : Type 0 where
+  pub small : low ≤ block_variables
+  pub room : 4 * 2 ^ low ≤ words
+  pub fours : 4 * (words / 4) ≡ words
+  pub few : words ≤ 4 * 2 ^ block_variables
 
 -- block h of the rows f, summed against the block's table
 unfoldable pub block_sum : ℕ → List ℕ → (ℕ → Ext) → ℕ → Ext

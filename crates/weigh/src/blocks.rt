@@ -1,13 +1,15 @@
 // Sums of words, or of elements, against eq: at the high coordinates by halves, and block by block against a table of eq of the low ones.
-ghost use Rattle.std.specs.Prelude.{◌≡◌, false, ◌+◌, ◌*◌, ◌%◌, ◌^◌, ◌≤◌, length, take, drop, ltb};
+ghost use Rattle.std.specs.Prelude.{◌≡◌, false, ◌+◌, ◌*◌, ◌%◌, ◌^◌, ◌≤◌, ◌<◌, length, take, drop, ltb};
 ghost use Rattle.algebra.specs.Ring.{Ops};
 ghost use Rattle.algebra.specs.Words.{unreduced};
 ghost use Rattle.multilinear.specs.Beside.{line};
 ghost use Rattle.field.specs.Field.{p, field, from_words, Reduced, Holds};
 ghost use Rattle.table.specs.Refusals.{most};
+ghost use Rattle.dots.specs.Dots.{Spread};
 ghost use Rattle.weigh.specs.Entries.{WholeTable};
 ghost use Rattle.weigh.specs.Weigh.{block_variables, BlockRoom, Summed};
 
+use dots::Block;
 use field::Element;
 use point::Point;
 
@@ -42,30 +44,37 @@ impl<'a> Piece<'a> {
 
 // A point that is split before its last `low` coordinates, which are a block's: the high ones, and the table of eq of the low ones.
 #[derive(Clone, Copy)]
-pub struct SplitPoint<'a> {
+pub struct SplitPoint<'a, const WORDS: usize> {
     pub high: Point<'a>,
     pub low: usize,
-    pub block: &'a [u32],
-    pub ghost summed: { Summed high.count low block.now },
+    pub block: Block<'a, WORDS>,
+    pub ghost summed: { Summed high.count low block.table.now },
 }
 
-impl<'a> SplitPoint<'a> {
-    ghost use Rattle.weigh.specs.Blocks.{Cut, After, Fits, Together, InRow, part_value, part_value_ext};
+impl<'a, const WORDS: usize> SplitPoint<'a, WORDS> {
+    ghost use Rattle.weigh.specs.Blocks.{Cut, After, Halved, HalvedTable, Fits, Together, InRow, part_value, part_value_ext};
 
-    // A point's coordinates, the last `low` of them by the table.
-    pub fn of(point: Point<'a>, low: usize, block: &'a [u32]) -> SplitPoint<'a>
-        requires { (low ≤ point.count) × (low ≤ block_variables) × BlockRoom low block.now }
-        ensures { Cut point.entry low block.now result }
+    // A point's coordinates, the last `low` of them by the table. The table and its words spread come one by one: a struct that lends both
+    // would have one lifetime with the point.
+    pub fn of(
+        point: Point<'a>,
+        low: usize,
+        table: &'a [u32],
+        spread: &'a [u64],
+    ) -> SplitPoint<'a, WORDS>
+        requires low { (low ≤ point.count) × (low ≤ block_variables) × BlockRoom low table.now }
+        requires spread { Spread WORDS table.now spread.now }
+        ensures { Cut point.entry low table.now result }
     {
         SplitPoint {
             high: point.first(point.count - low),
             low,
-            block,
+            block: Block { table, spread },
         }
     }
 
     // The high coordinates that follow the first k.
-    fn after(&self, k: usize) -> SplitPoint<'a>
+    fn after(&self, k: usize) -> SplitPoint<'a, WORDS>
         requires { k ≤ self.now.high.count }
         ensures { After k self.now result }
     {
@@ -76,10 +85,11 @@ impl<'a> SplitPoint<'a> {
         }
     }
 
-    // The value, at the high coordinates, of the sums of the blocks. Few words of one block are summed at once.
-    pub fn part(self, piece: Piece) -> Element
-        requires { Fits self piece }
-        ensures { Holds result (part_value self.entry piece.entry) }
+    // The value, at the high coordinates, of the sums of the blocks. Few words of one block are summed at once. By reference, as all below: a copy
+    // of the split point would be made for each place.
+    pub fn part(&self, piece: Piece) -> Element
+        requires { Fits self.now piece }
+        ensures { Holds result (part_value self.now piece.entry) }
     {
         if self.high.count == 0 {
             if piece.words.len() <= 4 {
@@ -90,9 +100,9 @@ impl<'a> SplitPoint<'a> {
     }
 
     // The same, in the smallest part of the table that has all the words.
-    fn trimmed(self, piece: Piece) -> Element
-        requires { Fits self piece }
-        ensures { Holds result (part_value self.entry piece.entry) }
+    fn trimmed(&self, piece: Piece) -> Element
+        requires { Fits self.now piece }
+        ensures { Holds result (part_value self.now piece.entry) }
     {
         if piece.words.len() == 0 {
             return Element::zero();
@@ -105,9 +115,9 @@ impl<'a> SplitPoint<'a> {
     }
 
     // How many of the high coordinates that part has.
-    fn spanned(self, piece: Piece) -> usize
-        requires { Fits self piece }
-        ensures { (result ≤ self.entry.high.count) × Together (result + self.entry.low) piece.entry }
+    fn spanned(&self, piece: Piece) -> usize
+        requires { Fits self.now piece }
+        ensures { (result ≤ self.now.high.count) × Together (result + self.now.low) piece.entry }
     {
         let mut own = 0;
         // By `find` no plainer: it would end by `unwrap_or` of the count, a case of its own, which `Fits` decides.
@@ -119,9 +129,9 @@ impl<'a> SplitPoint<'a> {
 
     // The same of words in a part that has the last `own` high coordinates. It is one row of those before: eq of the row times the part's
     // value.
-    fn in_row(self, own: usize, piece: Piece) -> Element
-        requires { Fits self piece × InRow own self piece }
-        ensures { Holds result (part_value self.entry piece.entry) }
+    fn in_row(&self, own: usize, piece: Piece) -> Element
+        requires { Fits self.now piece × InRow own self.now piece }
+        ensures { Holds result (part_value self.now piece.entry) }
     {
         let rows = table::rows(own + self.low);
         let before = self.high.count - own;
@@ -133,6 +143,24 @@ impl<'a> SplitPoint<'a> {
         eq.mul(self.after(before).halves(part))
     }
 
+    // What is left after the first of the high coordinates, and the words of both halves.
+    fn halved<'p>(&self, piece: Piece<'p>) -> (SplitPoint<'a, WORDS>, Piece<'p>, Piece<'p>)
+        requires { Fits self.now piece × (0 < self.now.high.count) }
+        ensures { Halved self.now piece.entry result.0 result.1 result.2 }
+    {
+        let (low, high) = piece.halves(table::rows(self.high.count - 1 + self.low));
+        (self.after(1), low, high)
+    }
+
+    // The same of a table of elements.
+    fn halved_ext<'p>(&self, entries: &'p [u32]) -> (SplitPoint<'a, WORDS>, &'p [u32], &'p [u32])
+        requires { WholeTable 4 (self.now.high.count + self.now.low) entries.now × (0 < self.now.high.count) }
+        ensures { HalvedTable self.now entries.now result.0 result.1.now result.2.now }
+    {
+        let half = 4 * table::rows(self.high.count - 1 + self.low);
+        (self.after(1), &entries[..half], &entries[half..])
+    }
+
     // The same, by the halves of the words. By reference: both halves have one copy of what is left.
     fn halves(&self, piece: Piece) -> Element
         requires { Fits self.now piece }
@@ -141,10 +169,9 @@ impl<'a> SplitPoint<'a> {
         if piece.words.len() == 0 {
             Element::zero()
         } else if self.high.count == 0 {
-            dots::dot(self.weights(piece), piece.words)
+            self.block.dot(piece.from, piece.words)
         } else {
-            let (low, high) = piece.halves(table::rows(self.high.count - 1 + self.low));
-            let rest = self.after(1);
+            let (rest, low, high) = self.halved(piece);
             let at0 = rest.halves(low);
             let at1 = rest.halves(high);
             line(at0, at1, self.high.read(0))
@@ -158,25 +185,24 @@ impl<'a> SplitPoint<'a> {
         ensures { Holds result (part_value_ext self.now entries.now) }
     {
         if self.high.count == 0 {
-            dots::dot_ext(self.block, entries)
+            dots::dot_ext(self.block.table, entries)
         } else {
-            let half = 4 * table::rows(self.high.count - 1 + self.low);
-            let rest = self.after(1);
-            let at0 = rest.halves_ext(&entries[..half]);
-            let at1 = rest.halves_ext(&entries[half..]);
+            let (rest, low, high) = self.halved_ext(entries);
+            let at0 = rest.halves_ext(low);
+            let at1 = rest.halves_ext(high);
             line(at0, at1, self.high.read(0))
         }
     }
 
     // The table's entries for the words of one block.
     fn weights(&self, piece: Piece) -> &'a [u32]
-        requires { 4 * piece.from + 4 * length piece.words.now ≤ length self.now.block.now }
+        requires { 4 * piece.from + 4 * length piece.words.now ≤ length self.now.block.table.now }
         ensures { result.now
-            ≡ take (4 * length piece.entry.words.now) (drop (4 * piece.entry.from) self.now.block.now) }
+            ≡ take (4 * length piece.entry.words.now) (drop (4 * piece.entry.from) self.now.block.table.now) }
     {
         let start = 4 * piece.from;
         let end = start + 4 * piece.words.len();
-        &self.block[start..end]
+        &self.block.table[start..end]
     }
 }
 

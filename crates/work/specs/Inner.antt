@@ -2,7 +2,7 @@
 use Rattle.std.specs.Prelude.{◌≡◌, false, ℕ, ◌+◌, ◌*◌, ◌/◌, ◌%◌, ◌^◌, ◌≤◌, ◌<◌, List, length}
 use Rattle.algebra.specs.Words.{unreduced}
 use Rattle.field.specs.Field.{p, Ext, field}
-use Rattle.table.specs.Table.{element_at, entries, table_words}
+use Rattle.table.specs.Table.{element_at, table_words}
 use Rattle.table.specs.Refusals.{most}
 use Rattle.work.specs.Work.{first, others}
 
@@ -38,14 +38,3 @@ accumulated k work given out = table_words (2 ^ k) (λ y. field.add (element_at 
 pub record Open (k : ℕ) (out : List ℕ) : Type 0 where
   pub room : length out ≡ 4 * 2 ^ k
   pub below : unreduced p out ≡ false
-
--- as many elements of rows and of out, all reduced
-pub record Stretch (rows out : List ℕ) : Type 0 where
-  pub same : length out ≡ length rows
-  pub whole : length rows ≡ 4 * entries rows
-  pub rows_below : unreduced p rows ≡ false
-  pub out_below : unreduced p out ≡ false
-
--- out, to each element of which seed times that of rows is added
-abbrev pub gained : List ℕ → Ext → List ℕ → List ℕ
-gained rows seed out = table_words (entries rows) (λ i. field.add (element_at out i) (field.mul seed (element_at rows i)))

@@ -8,7 +8,7 @@ ghost use Rattle.std.specs.Prelude.{◌≡◌, ◌+◌, ◌^◌, ◌<◌};
 ghost use Rattle.algebra.specs.Ring.{Ops};
 ghost use Rattle.field.specs.Field.{field, from_words, Reduced, Holds};
 ghost use Rattle.work.specs.Work.{work_differs, work_words};
-ghost use Rattle.work.specs.Inner.{BothTables, Tables, Apart, row_weight, accumulated, Open, Stretch, gained};
+ghost use Rattle.work.specs.Inner.{BothTables, Tables, Apart, row_weight, accumulated, Open};
 
 use field::Element;
 use multiplier::Multiplier;
@@ -60,11 +60,10 @@ pub fn accumulate(work: &[u32], k: usize, given: Element, out: &mut [u32])
     ensures { out.new ≡ accumulated k work.now (from_words given) out.old }
 {
     let (eq0, eq1) = tables(work, k);
-    let block = eq1.len();
-    // By number: of a block that `chunks_exact_mut` lent only its length is known after the loop.
+    let block = eq1.len() / 4;
     for h in 0..eq0.len() / 4 {
         let seed = given.mul(table::read(eq0, h));
-        gain(&mut out[h * block..(h + 1) * block], eq1, seed);
+        Multiplier::new(seed).gain(out, h * block, eq1);
     }
 }
 
@@ -74,17 +73,4 @@ fn tables(work: &[u32], k: usize) -> (&[u32], &[u32])
     ensures { Apart k work.now result.0.now result.1.now }
 {
     work.split_at(4 * table::rows(k / 2))
-}
-
-// out gains seed times the elements of rows.
-fn gain(out: &mut [u32], rows: &[u32], seed: Element)
-    requires { Stretch rows.now out.old × Reduced seed }
-    ensures { out.new ≡ gained rows.now (from_words seed) out.old }
-{
-    let m = Multiplier::new(seed);
-    // By number: of an element that `chunks_exact_mut` lent only its length is known after the loop.
-    for i in 0..rows.len() / 4 {
-        let sum = m.plus(table::get(out, i), table::read(rows, i));
-        table::put(out, i, sum);
-    }
 }

@@ -1,9 +1,9 @@
 -- `dots::dot_few` meets its contract. Assumes nothing.
-use Rattle.std.proofs.Common.{rules, ◌≡◌, ◌%◌, length, get_or, ◌∷◌, [], arith}
+use Rattle.std.proofs.Common.{rules, ◌≡◌, ◌+◌, ◌%◌, length, get_or, ◌∷◌, [], arith}
 use Rattle.std.proofs.lemmas.Grind.{common_steps}
 use Rattle.field.specs.Field.{p}
-use Rattle.field.proofs.Mapping.{serves_index}
-use Rattle.dots.proofs.FewWords.{start, fits, few_holds}
+use Rattle.field.proofs.Mapping.{serves_index, each_given}
+use Rattle.dots.proofs.FewWords.{start, turn, fits, few_holds}
 use Rattle.dots.proofs.dot_few.Goals as goal
 
 pub loop-i-init : goal.loop-i-init
@@ -15,6 +15,12 @@ from_fn-more-requires c = (
   serves_index (λ x q r. search rules)
       (λ x l. (l, fits _ _ c.loop-i.invariant c.loop-i-test.true c.requires.0 c.requires.1 c.gains-gains.ensures x l)),
 )
+
+pub loop-i-preserved : goal.loop-i-preserved
+loop-i-preserved c =
+    turn _ _ c.loop-i.invariant c.loop-i-test.true c.gains-gains.ensures
+    (each_given _ (λ k x. x ≡ get_or c.loop-i.sums k 0 + get_or c.gains-gains.result k 0) _ _ (λ i y q l j. search rules) _
+    c.from_fn-more.ensures.items)
 
 pub returns : goal.returns
 returns c =

@@ -3,7 +3,7 @@ use Rattle.std.proofs.Common.{◌*◌, ◌≤◌}
 use Rattle.algebra.specs.Sum.{sum_to}
 use Rattle.field.specs.Field.{field}
 use Rattle.table.specs.Gained.{Gained}
-use Rattle.scatter.specs.Scatter.{row_term}
+use Rattle.kernel.specs.Kernel.{row_term}
 use Rattle.scatter.proofs.by_table.Given as goal
 
 abbrev pub invariant-loop-j : goal.invariant-loop-j

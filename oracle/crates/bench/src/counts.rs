@@ -8,10 +8,10 @@ use crate::bench::key;
 use crate::frames::{Frames, SIDES, program, temporary};
 use crate::input::{Input, MOST};
 use crate::report::{count, percent, progress, ratio, some, table};
-use crate::side::Who::{self, Ours, Rust};
+use crate::side::Who::{self, Limit, Ours, Rust};
 
 /// The rows that are counted.
-const ROWS: [(&str, usize, &str); 16] = [
+const ROWS: [(&str, usize, &str); 19] = [
     ("1,000 products in a chain", 0, ""),
     ("new_from_point", 20, "k = 20"),
     ("equality_at_vertex", 20, "k = 20"),
@@ -21,6 +21,8 @@ const ROWS: [(&str, usize, &str); 16] = [
     ("Poly::eval_ext", 20, "k = 20"),
     ("Poly::eval_next_base", 20, "k = 20"),
     ("fix_prefix_var_mut", 20, ""),
+    ("fix_suffix_var_mut", 20, ""),
+    ("fix_prefix_var_mut_monomial", 20, ""),
     ("sum_prefix_var_mut", 20, ""),
     ("compress_prefix", 20, "k = 10"),
     ("compress_prefix_shifted", 20, "k = 20"),
@@ -28,6 +30,7 @@ const ROWS: [(&str, usize, &str); 16] = [
     ("compress_suffix", 20, "k = 10"),
     ("accumulate_into", 20, "k = 20"),
     ("session, suffix, plain", 20, "k = 20, whole"),
+    ("test of 2^20 words", 20, ""),
 ];
 
 /// The tables, or why there are none, and the fold's part of each foldframes.
@@ -45,7 +48,16 @@ pub fn run(input: &Input) -> Counts {
         };
     }
     let lines: Vec<_> = ROWS.map(row).into();
-    let head = ["operation", "n", "size", "Rust", "ours", "ours/Rust"];
+    let head = [
+        "operation",
+        "n",
+        "size",
+        "Rust",
+        "ours",
+        "ours/Rust",
+        "limit",
+        "ours/limit",
+    ];
     let mut text = table(&head, &lines);
     let (mut lines, mut parts) = (vec![], vec![]);
     for (name, side, _) in SIDES {
@@ -67,10 +79,21 @@ pub fn run(input: &Input) -> Counts {
 fn row((name, n, size): (&str, usize, &str)) -> Vec<String> {
     let key = key(name, n, size);
     progress(&format!("counting {key}"));
-    let [rust, ours] = [Rust, Ours].map(|who| once(&key, who));
-    let over = rust.zip(ours).map(|(rust, ours)| ours as f64 / rust as f64);
-    let [rust, ours] = [rust, ours].map(shown);
-    vec![name.into(), some(n), size.into(), rust, ours, ratio(over)]
+    let [rust, ours, limit] = [Rust, Ours, Limit].map(|who| once(&key, who));
+    let over = |other: Option<u64>| {
+        let both = ours.zip(other);
+        ratio(both.map(|(ours, other)| ours as f64 / other as f64))
+    };
+    vec![
+        name.into(),
+        some(n),
+        size.into(),
+        shown(rust),
+        shown(ours),
+        over(rust),
+        shown(limit),
+        over(limit),
+    ]
 }
 
 fn shown(number: Option<u64>) -> String {

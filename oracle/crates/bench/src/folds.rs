@@ -6,9 +6,9 @@ use p3_multilinear_util::split_eq::SplitEq;
 
 use crate::bench::Bench;
 use crate::input::{GIVEN, Input, MOST, SCALE, elements, given, scale};
-use crate::reference;
-use crate::side::Who::{C, Ours, Rust};
+use crate::side::Who::{C, Limit, Ours, Rust};
 use crate::side::{Side, Who, Words};
+use crate::{limits, reference};
 
 type Split = SplitEq<Base, Element>;
 
@@ -44,9 +44,8 @@ pub fn run(bench: &mut Bench, input: &Input) {
         for k in COORDINATES {
             bench.case(name, n, format!("k = {k}"), || {
                 let mut sides = fold(input, n, k, ours, rust);
-                if k == 10 {
-                    sides.extend(by_hand(input, n, k, name));
-                }
+                sides.extend(by_hand(input, n, k, name));
+                sides.extend(limit(input, n, k, name));
                 sides
             });
         }
@@ -86,15 +85,31 @@ pub fn our_fold(who: Who, input: &Input, n: usize, k: usize, fold: Fold) -> Side
 fn by_hand<'a>(input: &'a Input, n: usize, k: usize, name: &str) -> Option<Side<'a>> {
     let (words, point) = (input.words(n), input.coordinates(k));
     let mut work = work(k);
-    match name {
-        "compress_prefix" => Some(Side::lent(C, 4 << (n - k), move |out| {
+    match (name, k) {
+        ("compress_prefix", 10) => Some(Side::lent(C, 4 << (n - k), move |out| {
             reference::compress_prefix(words, point, &SCALE, &mut work, out)
         })),
-        "compress_suffix" => Some(Side::lent(C, 4 << (n - k), |out| {
+        ("compress_suffix", 10) => Some(Side::lent(C, 4 << (n - k), |out| {
             reference::compress_suffix(words, point, &SCALE, out)
         })),
         _ => None,
     }
+}
+
+/// The plain folds in C with vectors. A fold of one place has no side.
+fn limit<'a>(input: &'a Input, n: usize, k: usize, name: &str) -> Option<Side<'a>> {
+    let (words, point) = (input.words(n), input.coordinates(k));
+    let fold = match (name, k) {
+        ("compress_prefix", 1) => limits::join_rows,
+        ("compress_prefix", 10) => limits::compress_prefix,
+        ("compress_prefix", MOST) => limits::compress_suffix,
+        ("compress_suffix", 1) => limits::join_neighbours,
+        ("compress_suffix", 10 | 19 | MOST) => limits::compress_suffix,
+        _ => return None,
+    };
+    Some(Side::lent(Limit, 4 << (n - k), move |out| {
+        fold(words, point, &SCALE, out)
+    }))
 }
 
 /// The words of a work buffer.
@@ -117,13 +132,18 @@ fn accumulate(input: &Input, k: usize) -> Vec<Side<'_>> {
         })
     });
     let mut sides = Vec::from(sides);
-    let calls: [(Who, Accumulate); 2] = [
+    let mut calls: Vec<(Who, Accumulate)> = vec![
         (Ours, host::accumulate_into),
         (C, |point, _, _, work, out| {
             reference::accumulate(point, &SCALE, &GIVEN, work, out)
         }),
     ];
-    sides.extend(calls.map(|(who, call)| {
+    if k > 1 {
+        calls.push((Limit, |point, _, _, _, out| {
+            limits::accumulate(point, &SCALE, &GIVEN, out)
+        }));
+    }
+    sides.extend(calls.into_iter().map(|(who, call)| {
         let (point, mut work, mut out) = (input.coordinates(k), work(k), entries.to_vec());
         Side::new(who, move |clock| {
             let call = || call(point, SCALE, GIVEN, &mut work, &mut out);

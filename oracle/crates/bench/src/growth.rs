@@ -6,7 +6,7 @@ use crate::input::{Input, MOST};
 use crate::points::new_from_point;
 use crate::report::{progress, table};
 use crate::side::Side;
-use crate::side::Who::{C, Ours, Rust};
+use crate::side::Who::{Ours, Rust};
 use crate::values::eval_base;
 
 pub const FIRST: usize = 10;
@@ -41,7 +41,7 @@ pub fn run(input: &Input, runs: usize) -> Vec<Line> {
         for n in FIRST..=MOST {
             progress(&format!("{name}, n = {n}"));
             let mut sides = sides(input, n);
-            sides.retain(|side| side.who != C);
+            sides.retain(|side| matches!(side.who, Rust | Ours));
             let times = least(&mut sides, runs);
             let of = |who| {
                 let all = times.iter().filter(|(other, _)| *other == who);

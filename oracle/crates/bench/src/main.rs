@@ -1,6 +1,7 @@
-//! Times the proved operations beside the Rust and, for the kernels, beside C:
-//! same input, same process, one thread, runs in turn, the least of them. Counts
-//! instructions by callgrind, and shows how time grows with the table.
+//! Times the proved operations beside the Rust and, for the kernels, beside C
+//! and a limit: same input, same process, one thread, runs in turn, the least of
+//! them. Counts instructions by callgrind, and shows how time grows with the
+//! table.
 //!
 //!     bench [--runs N] [--write]
 //!     bench --once ROW SIDE
@@ -21,6 +22,7 @@ mod folds;
 mod frames;
 mod growth;
 mod input;
+mod limits;
 mod plot;
 mod points;
 mod reference;
@@ -81,6 +83,7 @@ fn main() {
         ("feeds", feeds::text(rows)),
         ("aims", verdict::aims(rows, &counts.parts)),
         ("missed", verdict::misses(rows)),
+        ("limits", verdict::beyond(rows)),
     ];
     report::progress("");
     for (name, part) in &parts {

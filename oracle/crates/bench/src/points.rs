@@ -10,9 +10,9 @@ use p3_multilinear_util::poly::Poly;
 
 use crate::bench::Bench;
 use crate::input::{GIVEN, Input, MOST, SCALE, elements, given, scale};
-use crate::reference;
-use crate::side::Who::{C, Ours, Rust};
+use crate::side::Who::{C, Limit, Ours, Rust};
 use crate::side::{Side, Words};
+use crate::{limits, reference};
 
 /// A row of 20 bits, some of them set.
 const VERTEX: u64 = 0xa5c3f;
@@ -64,6 +64,9 @@ pub fn new_from_point(input: &Input, k: usize) -> Vec<Side<'_>> {
         Side::lent(Ours, 4 << k, |out| host::new_from_point(words, SCALE, out)),
         Side::lent(C, 4 << k, |out| {
             reference::new_from_point(words, &SCALE, out)
+        }),
+        Side::lent(Limit, 4 << k, |out| {
+            limits::new_from_point(words, &SCALE, out)
         }),
     ]
 }

@@ -45,12 +45,12 @@ unsafe extern "C" {
 
 /// Each function reads and writes just the words that the lengths say; they are
 /// asked for here.
-fn elements(words: &[u32]) -> c_int {
+pub fn elements(words: &[u32]) -> c_int {
     assert!(words.len().is_multiple_of(4));
     (words.len() / 4) as c_int
 }
 
-fn variables(table: &[u32], k: c_int, out: &[u32]) -> c_int {
+pub fn variables(table: &[u32], k: c_int, out: &[u32]) -> c_int {
     assert!(table.len().is_power_of_two());
     let n = table.len().ilog2() as c_int;
     assert!(k <= n && out.len() == 4 << (n - k));
@@ -95,7 +95,7 @@ pub fn sum_prefix(table: &mut [u32]) -> u32 {
 }
 
 /// Of a table of elements, at least two.
-fn entry_variables(table: &[u32]) -> c_int {
+pub fn entry_variables(table: &[u32]) -> c_int {
     let entries = elements(table) as u32;
     assert!(entries.is_power_of_two() && entries > 1);
     entries.ilog2() as c_int

@@ -3,7 +3,7 @@
 use std::io::{IsTerminal, stderr};
 
 use crate::bench::Row;
-use crate::side::Who::{Apart, Ours, Rust};
+use crate::side::Who::{Apart, Limit, Ours, Rust};
 
 /// A head and lines; the first column to the left, the others to the right.
 pub fn table(head: &[&str], lines: &[Vec<String>]) -> String {
@@ -44,6 +44,8 @@ pub fn times(rows: &[Row]) -> String {
         "ours/Rust",
         "beside ours",
         "ours/that",
+        "limit",
+        "ours/limit",
     ];
     let others = rows.iter().filter(|row| row.time(Apart).is_none());
     let lines: Vec<_> = others.map(line).collect();
@@ -71,6 +73,8 @@ fn line(row: &Row) -> Vec<String> {
         ratio(row.ratio(Rust)),
         other,
         over,
+        row.time(Limit).map(seconds).unwrap_or_default(),
+        ratio(row.ratio(Limit)),
     ]
 }
 

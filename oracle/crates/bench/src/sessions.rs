@@ -6,9 +6,9 @@ use host::{COORDINATES, HEAD};
 use crate::bench::Bench;
 use crate::folds::{Fold, PREFIX, PREFIX_SHIFTED, SUFFIX, SUFFIX_SHIFTED, our_fold};
 use crate::input::{Input, MOST, SCALE};
-use crate::reference;
 use crate::side::Side;
-use crate::side::Who::{self, C, Ours};
+use crate::side::Who::{self, C, Limit, Ours};
+use crate::{limits, reference};
 
 /// The words of a session: the head, and the coordinates.
 type Words = ([u32; HEAD], [u32; COORDINATES]);
@@ -63,7 +63,12 @@ pub fn run(bench: &mut Bench, input: &Input) {
     // Of a feed without words the test of out is what takes time.
     let k = 2;
     bench.case("test of 2^20 words", n, String::new(), || {
-        vec![Session::new(input, n, k).feed(0), check(4 << (n - k))]
+        let count = 4 << (n - k);
+        vec![
+            Session::new(input, n, k).feed(0),
+            check(C, count, reference::unreduced),
+            check(Limit, count, limits::unreduced),
+        ]
     });
 }
 
@@ -204,9 +209,9 @@ impl<'a> Session<'a> {
 }
 
 /// The test in C of so many words.
-fn check(count: usize) -> Side<'static> {
+fn check(who: Who, count: usize, unreduced: fn(&[u32]) -> u32) -> Side<'static> {
     let words = vec![0; count];
-    Side::new(C, move |clock| {
-        assert_eq!(clock.each(|| reference::unreduced(&words)), 0);
+    Side::new(who, move |clock| {
+        assert_eq!(clock.each(|| unreduced(&words)), 0);
     })
 }

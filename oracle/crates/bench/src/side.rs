@@ -11,6 +11,8 @@ pub enum Who {
     Ours,
     /// The same form by hand.
     C,
+    /// The best form by hand, with vectors.
+    Limit,
     /// Our fold in one call, beside a session.
     Fold,
     /// Our fold on words, beside that on bytes.
@@ -31,6 +33,7 @@ impl Who {
             Self::Rust => "Rust",
             Self::Ours => "ours",
             Self::C => "C",
+            Self::Limit => "limit",
             Self::Fold => "fold",
             Self::Words => "words",
             Self::Apart => "apart",

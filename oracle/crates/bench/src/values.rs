@@ -5,39 +5,49 @@ use p3_multilinear_util::poly::Poly;
 
 use crate::bench::Bench;
 use crate::input::{Input, MOST, SCALE, elements, scale};
-use crate::reference;
-use crate::side::Who::{C, Ours, Rust};
+use crate::side::Who::{self, C, Limit, Ours, Rust};
 use crate::side::{Side, Words};
+use crate::{limits, reference};
 
 type Fix = fn([u32; 4], &mut [u32], &mut u64) -> u32;
 type RustFix = fn(&mut Poly<Element>, Element);
 type FixByHand = fn(&mut [u32]) -> u32;
 
-const FIXING: [(&str, Fix, RustFix, Option<FixByHand>); 4] = [
-    (
-        "fix_prefix_var_mut",
-        host::fix_prefix_var_mut,
-        |table, r| table.fix_prefix_var_mut(r),
-        Some(|table| reference::fix_prefix(table, &SCALE)),
-    ),
-    (
-        "fix_suffix_var_mut",
-        host::fix_suffix_var_mut,
-        |table, r| table.fix_suffix_var_mut(r),
-        None,
-    ),
-    (
-        "fix_prefix_var_mut_monomial",
-        host::fix_prefix_var_mut_monomial,
-        |table, r| table.fix_prefix_var_mut_monomial(r),
-        None,
-    ),
-    (
-        "sum_prefix_var_mut",
-        |_, table, count| host::sum_prefix_var_mut(table, count),
-        |table, _| table.sum_prefix_var_mut(),
-        Some(reference::sum_prefix),
-    ),
+struct Fixing {
+    name: &'static str,
+    ours: Fix,
+    rust: RustFix,
+    by_hand: &'static [(Who, FixByHand)],
+}
+
+const FIXING: [Fixing; 4] = [
+    Fixing {
+        name: "fix_prefix_var_mut",
+        ours: host::fix_prefix_var_mut,
+        rust: |table, r| table.fix_prefix_var_mut(r),
+        by_hand: &[
+            (C, |table| reference::fix_prefix(table, &SCALE)),
+            (Limit, |table| limits::fix_prefix(table, &SCALE)),
+        ],
+    },
+    Fixing {
+        name: "fix_suffix_var_mut",
+        ours: host::fix_suffix_var_mut,
+        rust: |table, r| table.fix_suffix_var_mut(r),
+        by_hand: &[(Limit, |table| limits::fix_suffix(table, &SCALE))],
+    },
+    Fixing {
+        name: "fix_prefix_var_mut_monomial",
+        ours: host::fix_prefix_var_mut_monomial,
+        rust: |table, r| table.fix_prefix_var_mut_monomial(r),
+        by_hand: &[(Limit, |table| limits::fix_monomial(table, &SCALE))],
+    },
+    Fixing {
+        name: "sum_prefix_var_mut",
+        ours: |_, table, count| host::sum_prefix_var_mut(table, count),
+        rust: |table, _| table.sum_prefix_var_mut(),
+        by_hand: &[(C, reference::sum_prefix), (Limit, limits::sum_prefix)],
+    },
 ];
 
 /// The most variables of a table whose value is computed by halves down to its entries.
@@ -52,10 +62,11 @@ pub fn run(bench: &mut Bench, input: &Input) {
     let n = MOST;
     let k = || format!("k = {n}");
     bench.case("Poly::eval_next_base", n, k(), || eval_next_base(input, n));
-    for (name, ours, rust, by_hand) in FIXING {
-        bench.case(name, n, String::new(), || {
-            let mut sides = fix(input, n, ours, rust);
-            sides.extend(by_hand.map(|by_hand| fix_by_hand(input, n, by_hand)));
+    for fixing in FIXING {
+        bench.case(fixing.name, n, String::new(), || {
+            let mut sides = fix(input, n, fixing.ours, fixing.rust);
+            let by_hand = fixing.by_hand.iter();
+            sides.extend(by_hand.map(|&(who, fix)| fix_by_hand(who, input, n, fix)));
             sides
         });
     }
@@ -71,6 +82,9 @@ pub fn eval_base(input: &Input, n: usize) -> Vec<Side<'_>> {
         sides.push(Side::lent(C, 4, |out| {
             reference::eval_base(words, coordinates, out)
         }));
+        sides.push(Side::lent(Limit, 4, |out| {
+            limits::eval_base(words, coordinates, out)
+        }));
     }
     sides
 }
@@ -85,6 +99,9 @@ fn eval_ext(input: &Input, n: usize) -> Vec<Side<'_>> {
     if HALVES < n {
         sides.push(Side::lent(C, 4, |out| {
             reference::eval_ext(words, coordinates, out)
+        }));
+        sides.push(Side::lent(Limit, 4, |out| {
+            limits::eval_ext(words, coordinates, out)
         }));
     }
     sides
@@ -119,10 +136,10 @@ fn fix(input: &Input, n: usize, ours: Fix, rust: RustFix) -> Vec<Side<'_>> {
     ]
 }
 
-fn fix_by_hand(input: &Input, n: usize, fix: FixByHand) -> Side<'_> {
+fn fix_by_hand(who: Who, input: &Input, n: usize, fix: FixByHand) -> Side<'_> {
     let entries = input.entries(n);
     let mut words = entries.to_vec();
-    Side::new(C, move |clock| {
+    Side::new(who, move |clock| {
         words.copy_from_slice(entries);
         assert_eq!(clock.once(|| fix(&mut words)), 0);
         clock.leaves(|| words[..entries.len() / 2].to_vec());

@@ -6,7 +6,7 @@ pub add_block-requires-clause-portion : goal.add_block-requires-clause-portion
 add_block-requires-clause-portion c = first_block c.args.self.now c.first_row-first.ensures
 
 pub add_block-requires-clause-sums_value : goal.add_block-requires-clause-sums_value
-add_block-requires-clause-sums_value c = none_added c.args.self.now c.requires
+add_block-requires-clause-sums_value c = none_added c.args.self.now c.clear.ensures c.requires
 
 pub loop-at-init : goal.loop-at-init
 loop-at-init c = first_added c.args.self.now c.first_row-first.ensures c.add_block.ensures

@@ -4,4 +4,4 @@ use Rattle.dots.proofs.Settling.{settle_law}
 use Rattle.dots.proofs.halves.Halves.settle.Goals as goal
 
 pub returns : goal.returns
-returns c = c.residue.ensures ∙ settle_law _
+returns c = rw c.low.ensures at c.residue.ensures ∙ settle_law c.args.self

@@ -5,4 +5,4 @@ use Rattle.moved.proofs.PlaceByPlace.{Done}
 use Rattle.moved.proofs.places.Blocks.add_range.Given as goal
 
 abbrev pub invariant-loop-i : goal.invariant-loop-i
-invariant-loop-i l = Done (moved_by Suffix l.self.piece) l.initial.i l.i-end l.fn.out l.out l.i
+invariant-loop-i g l = Done (moved_by Suffix l.self.piece) l.initial.i l.i-end l.fn.out l.out l.i

@@ -2,4 +2,4 @@
 use Rattle.weigh.proofs.blocks.SplitPoint.+halves.Given as goal
 
 abbrev pub decreases-halves : goal.decreases-halves
-decreases-halves l = l.self.now.high.count
+decreases-halves g l = l.self.now.high.count

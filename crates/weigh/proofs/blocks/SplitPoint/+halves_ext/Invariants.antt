@@ -2,4 +2,4 @@
 use Rattle.weigh.proofs.blocks.SplitPoint.+halves_ext.Given as goal
 
 abbrev pub decreases-halves_ext : goal.decreases-halves_ext
-decreases-halves_ext l = l.self.now.high.count
+decreases-halves_ext g l = l.self.now.high.count

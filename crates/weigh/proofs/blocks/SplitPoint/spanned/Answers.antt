@@ -4,4 +4,4 @@ use lib.Pow.{pow_mono}
 use Rattle.weigh.proofs.blocks.SplitPoint.spanned.Goals as goal
 
 pub crosses-requires : goal.crosses-requires
-crosses-requires c = (omega (arith, c.args.self.summed.few), omega (arith, pow_mono c.args.self.summed.few))
+crosses-requires g c = (omega (arith, c.args.self.now.summed.few), omega (arith, pow_mono c.args.self.now.summed.few))

@@ -3,7 +3,7 @@ use Rattle.std.proofs.Common.{◌-◌, ◌≤◌}
 use Rattle.weigh.proofs.blocks.SplitPoint.spanned.Given as goal
 
 abbrev pub invariant-loop-own : goal.invariant-loop-own
-invariant-loop-own l = l.own ≤ l.self.high.count
+invariant-loop-own g l = l.own ≤ l.self.high.count
 
 abbrev pub decreases-loop-own : goal.decreases-loop-own
-decreases-loop-own l = l.self.high.count - l.own
+decreases-loop-own g l = l.self.high.count - l.own

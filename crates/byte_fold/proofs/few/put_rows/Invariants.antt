@@ -1,0 +1,9 @@
+-- The bytes of the first i elements are written.
+use Rattle.field.specs.Field.{field, base}
+use Rattle.lowering.specs.Lowering.{unit_inverse}
+use Rattle.kernel.specs.Kernel.{rows_at}
+use Rattle.byte_fold.proofs.Putting.{Put}
+use Rattle.byte_fold.proofs.few.put_rows.Given as goal
+
+abbrev pub invariant-loop-i : goal.invariant-loop-i
+invariant-loop-i g l = Put (λ i. field.mul (rows_at g.row.N l.raised l.n l.table i) (base unit_inverse)) l.i l.fn.out l.out
