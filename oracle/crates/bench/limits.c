@@ -427,7 +427,7 @@ static inline vector value(const steps *s, const uint32_t *words, int k, vector 
 
 /* The suffix fold, k at least 4. Where out is small, words are tested when they
    are taken. */
-uint32_t limit_compress_suffix(const uint32_t *table, int n, const element *point, int k, const element *scale,
+static uint32_t by_places(const uint32_t *table, int n, const element *point, int k, const element *scale,
     element *out) {
     element kept[KEPT];
     size_t places = (size_t)1 << (n - k);
@@ -456,7 +456,7 @@ uint32_t limit_compress_suffix(const uint32_t *table, int n, const element *poin
 /* The value of a table at a point of n coordinates. */
 uint32_t limit_eval_base(const uint32_t *table, int n, const element *point, element *out) {
     static const element one = {{1, 0, 0, 0}};
-    return limit_compress_suffix(table, n, point, n, &one, out);
+    return by_places(table, n, point, n, &one, out);
 }
 
 /* The value of a table of elements: as above, but for the words. n is at least 2. */
@@ -555,8 +555,7 @@ static void weigh_rows(element *eq, const element *point, int k, vector scale, u
 #define MOST_ROWS 11
 
 /* The prefix fold, k from 3 to 11 and at least four places. */
-uint32_t limit_compress_prefix(const uint32_t *table, int n, const element *point, int k, const element *scale,
-    element *out) {
+static uint32_t by_rows(const uint32_t *table, int n, const element *point, int k, const element *scale, element *out) {
     element kept[KEPT], eq[1 << MOST_ROWS];
     size_t places = (size_t)1 << (n - k), rows = (size_t)1 << k;
     vector most = _mm_max_epu32(greatest(point->c, 4 * (size_t)k, _mm_setzero_si128()), load(scale));
@@ -616,7 +615,7 @@ static uint32_t tested_words(const uint32_t *table, int n, const element *point,
 }
 
 /* The prefix fold by one coordinate, of at least four places. */
-uint32_t limit_join_rows(const uint32_t *table, int n, const element *point, const element *scale, element *out) {
+static uint32_t join_rows(const uint32_t *table, int n, const element *point, const element *scale, element *out) {
     if (tested_words(table, n, point, scale)) {
         return 5;
     }
@@ -632,7 +631,8 @@ uint32_t limit_join_rows(const uint32_t *table, int n, const element *point, con
 }
 
 /* The suffix fold by one coordinate, of at least two places. */
-uint32_t limit_join_neighbours(const uint32_t *table, int n, const element *point, const element *scale, element *out) {
+static uint32_t join_neighbours(const uint32_t *table, int n, const element *point, const element *scale,
+    element *out) {
     if (tested_words(table, n, point, scale)) {
         return 5;
     }
@@ -643,6 +643,17 @@ uint32_t limit_join_neighbours(const uint32_t *table, int n, const element *poin
         store(out + i + 1, joined(&w, x.c[2], x.c[3]));
     }
     return 0;
+}
+
+/* The folds: by one coordinate, or by the bounds that stand at by_rows and by_places. */
+uint32_t limit_compress_prefix(const uint32_t *table, int n, const element *point, int k, const element *scale,
+    element *out) {
+    return k == 1 ? join_rows(table, n, point, scale, out) : by_rows(table, n, point, k, scale, out);
+}
+
+uint32_t limit_compress_suffix(const uint32_t *table, int n, const element *point, int k, const element *scale,
+    element *out) {
+    return k == 1 ? join_neighbours(table, n, point, scale, out) : by_places(table, n, point, k, scale, out);
 }
 
 /* a0 + (a1 - a0) r, where r is centred. */

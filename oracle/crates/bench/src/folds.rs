@@ -100,11 +100,9 @@ fn by_hand<'a>(input: &'a Input, n: usize, k: usize, name: &str) -> Option<Side<
 fn limit<'a>(input: &'a Input, n: usize, k: usize, name: &str) -> Option<Side<'a>> {
     let (words, point) = (input.words(n), input.coordinates(k));
     let fold = match (name, k) {
-        ("compress_prefix", 1) => limits::join_rows,
-        ("compress_prefix", 10) => limits::compress_prefix,
+        ("compress_prefix", 1 | 10) => limits::compress_prefix,
         ("compress_prefix", MOST) => limits::compress_suffix,
-        ("compress_suffix", 1) => limits::join_neighbours,
-        ("compress_suffix", 10 | 19 | MOST) => limits::compress_suffix,
+        ("compress_suffix", 1 | 10 | 19 | MOST) => limits::compress_suffix,
         _ => return None,
     };
     Some(Side::lent(Limit, 4 << (n - k), move |out| {

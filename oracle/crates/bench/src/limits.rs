@@ -8,14 +8,6 @@ use crate::reference::{elements, entry_variables, variables};
 
 type Fixed = unsafe extern "C" fn(table: *mut u32, n: c_int, r: *const u32) -> u32;
 
-type Joined = unsafe extern "C" fn(
-    table: *const u32,
-    n: c_int,
-    point: *const u32,
-    scale: *const u32,
-    out: *mut u32,
-) -> u32;
-
 type Folded = unsafe extern "C" fn(
     table: *const u32,
     n: c_int,
@@ -39,20 +31,6 @@ unsafe extern "C" {
         k: c_int,
         scale: *const u32,
         given: *const u32,
-        out: *mut u32,
-    ) -> u32;
-    fn limit_join_rows(
-        table: *const u32,
-        n: c_int,
-        point: *const u32,
-        scale: *const u32,
-        out: *mut u32,
-    ) -> u32;
-    fn limit_join_neighbours(
-        table: *const u32,
-        n: c_int,
-        point: *const u32,
-        scale: *const u32,
         out: *mut u32,
     ) -> u32;
     fn limit_compress_suffix(
@@ -137,30 +115,6 @@ pub fn accumulate(point: &[u32], scale: &[u32; 4], given: &[u32; 4], out: &mut [
     }
 }
 
-fn joined(table: &[u32], point: &[u32], scale: &[u32; 4], out: &mut [u32], join: Joined) -> u32 {
-    let n = variables(table, elements(point), out);
-    assert!(elements(point) == 1 && out.len() >= 16);
-    unsafe {
-        join(
-            table.as_ptr(),
-            n,
-            point.as_ptr(),
-            scale.as_ptr(),
-            out.as_mut_ptr(),
-        )
-    }
-}
-
-/// The prefix fold by one coordinate.
-pub fn join_rows(table: &[u32], point: &[u32], scale: &[u32; 4], out: &mut [u32]) -> u32 {
-    joined(table, point, scale, out, limit_join_rows)
-}
-
-/// The suffix fold by one coordinate.
-pub fn join_neighbours(table: &[u32], point: &[u32], scale: &[u32; 4], out: &mut [u32]) -> u32 {
-    joined(table, point, scale, out, limit_join_neighbours)
-}
-
 fn folded(table: &[u32], point: &[u32], scale: &[u32; 4], out: &mut [u32], fold: Folded) -> u32 {
     let k = elements(point);
     let n = variables(table, k, out);
@@ -178,12 +132,12 @@ fn folded(table: &[u32], point: &[u32], scale: &[u32; 4], out: &mut [u32], fold:
 
 pub fn compress_suffix(table: &[u32], point: &[u32], scale: &[u32; 4], out: &mut [u32]) -> u32 {
     let k = elements(point);
-    assert!(k >= 4 && has_room(k));
+    assert!((k == 1 && out.len() >= 8) || (k >= 4 && has_room(k)));
     folded(table, point, scale, out, limit_compress_suffix)
 }
 
 pub fn compress_prefix(table: &[u32], point: &[u32], scale: &[u32; 4], out: &mut [u32]) -> u32 {
     let k = elements(point);
-    assert!((3..=11).contains(&k) && out.len() >= 16);
+    assert!((k == 1 || (3..=11).contains(&k)) && out.len() >= 16);
     folded(table, point, scale, out, limit_compress_prefix)
 }
