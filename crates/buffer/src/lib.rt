@@ -6,8 +6,8 @@ ghost use Rattle.std.specs.Prelude.{◌≡◌, ◌∷◌, [], ◌++◌, ◌+◌,
 
 use std::marker::Model;
 
-// At most N items, as a list of them.
-#[derive(Drop)]
+// At most N items. Contracts speak of them as a list, `items`.
+#[derive(Clone, Copy)]
 pub struct Buffer<T, const N: usize> {
     room: [T; N],
     count: usize,
@@ -15,21 +15,21 @@ pub struct Buffer<T, const N: usize> {
 
 impl<T, const N: usize> Model for Buffer<T, N> {
     ghost use Rattle.std.specs.Prelude.{ℕ, List, ◌≤◌, take};
-    ghost use Rattle.std.specs.Coded.{coded_list};
+    ghost use Rattle.buffer.specs.Held.{Held};
 
-    ghost Value = { List T };
+    ghost Value = { Held T };
 
-    ghost coded = { coded_list T.code };
-
-    ghost view = { λ b. take b.count b.room };
+    ghost view = { λ b. record { items = take b.count b.room; room = b.room; count = b.count } };
 
     ghost invariant = { λ b. b.count ≤ N };
+
+    ghost inverse = { λ v. record { room = v.room; count = v.count } };
 }
 
 impl<T: Copy + Default, const N: usize> Buffer<T, N> {
     // Nothing yet.
     pub fn new() -> Self
-        ensures { result ≡ [] }
+        ensures { result.items ≡ [] }
     {
         Buffer {
             room: [T::default(); N],
@@ -38,22 +38,22 @@ impl<T: Copy + Default, const N: usize> Buffer<T, N> {
     }
 
     pub fn as_slice(&self) -> &[T]
-        ensures items { result.now ≡ self.now }
-        ensures few { length self.now ≤ N }
+        ensures items { result.now ≡ self.now.items }
+        ensures few { length self.now.items ≤ N }
     {
         &self.room[..self.count]
     }
 
     pub fn clear(&mut self)
-        ensures { self.new ≡ [] }
+        ensures { self.new.items ≡ [] }
     {
         self.count = 0;
     }
 
     // One more.
     pub fn push(&mut self, item: T)
-        requires { length self.old < N }
-        ensures { self.new ≡ self.old ++ item ∷ [] }
+        requires { length self.old.items < N }
+        ensures { self.new.items ≡ self.old.items ++ item ∷ [] }
     {
         self.room[self.count] = item;
         self.count += 1;
@@ -61,8 +61,8 @@ impl<T: Copy + Default, const N: usize> Buffer<T, N> {
 
     // More of them.
     pub fn extend(&mut self, items: &[T])
-        requires { length self.old + length items.now ≤ N }
-        ensures { self.new ≡ self.old ++ items.now }
+        requires { length self.old.items + length items.now ≤ N }
+        ensures { self.new.items ≡ self.old.items ++ items.now }
     {
         let end = self.count + items.len();
         let room = &mut self.room[..];
@@ -72,7 +72,7 @@ impl<T: Copy + Default, const N: usize> Buffer<T, N> {
 
     // As many of the items as there is room for.
     pub fn hold(&mut self, items: &[T])
-        ensures { self.new ≡ take N (self.old ++ items.now) }
+        ensures { self.new.items ≡ take N (self.old.items ++ items.now) }
     {
         let count = items.len().min(N - self.count);
         self.extend(&items[..count]);

@@ -18,7 +18,7 @@ use Rattle.table.proofs.Outcomes.{refused_leaves, accepted_leaves}
 use Rattle.table.proofs.Fronts.{front_refused}
 use Rattle.table.proofs.Verdicts.{clear}
 use Rattle.point.specs.Point as on-words
-use Rattle.next.specs.declared.Parts.{Parts}
+use Rattle.next.specs.declared.parts.Parts.{Parts}
 use Rattle.next.specs.Next.{pair_tests, part_words, next_outcome, eval_next_answer}
 use Rattle.byte_points.specs.BytePoints.{vertex_sizes, vertex_words, vertex_tests, vertex_answer, vertex_out, next_sizes, next_words, next_tests, next_answer, next_out}
 use Rattle.byte_points.specs.Few.{Few}

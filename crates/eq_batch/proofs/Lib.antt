@@ -1,5 +1,6 @@
 mod Rooms
 mod Gathering
 mod BlockByBlock
+mod OneBlock
 mod Summing
 mod Rows

@@ -3,11 +3,14 @@
 //     out[y] = sum_j scalar_j eq(point_j)[y]
 //
 // A point's table of the last 8 coordinates, or fewer, is made once, in an array (4 KiB). out gains it block by block, times eq of the
-// coordinates before: 2^n products a point, 2^8 more, and at most 12 a block.
+// coordinates before: 2^n products a point, 2^8 more, and at most 12 a block. With n of 8 or fewer there is one block,
+// and it is added without a product.
 #![tactic(auto)]
 
 ghost use Rattle.std.specs.Prelude.{◌≡◌, true, false, not, ◌*◌, ◌^◌, eqb};
-ghost use Rattle.field.specs.Field.{Reduced};
+ghost use Rattle.algebra.specs.Words.{unreduced};
+ghost use Rattle.field.specs.Field.{p, Reduced};
+ghost use Rattle.table.specs.Table.{element_at, entries};
 ghost use Rattle.table.specs.Refusals.{answer, verdict};
 ghost use Rattle.table.specs.Gained.{Gained};
 ghost use Rattle.point.specs.Points.{coordinates};
@@ -130,6 +133,7 @@ fn gather(points: &[u32], n: usize, w: usize, j: usize) -> [u32; WORDS]
 }
 
 // out gains scale eq of the point, block by block: a block for each row of the first coordinates, by the table of the last ones.
+// A point without first coordinates has one block, whose table is added as it is.
 fn add_point(point: Point, scale: Element, out: &mut [u32])
     requires { Reduced scale × Elements 0 (2 ^ point.count) out.old }
     ensures { Gained 0 (2 ^ point.entry.count) (scaled_at scale (coordinates point.entry))
@@ -140,8 +144,23 @@ fn add_point(point: Point, scale: Element, out: &mut [u32])
     let rows = table::rows(low);
     let room = weigh::block_of::<BLOCK_WORDS>(point, low, scale);
     let block = &room[..4 * rows];
+    if first.count == 0 {
+        return add_table(out, block);
+    }
     for h in 0..table::rows(first.count) {
         let seed = equality::at_row(first, h);
         Multiplier::new(seed).gain(out, h * rows, block);
+    }
+}
+
+// out gains the rows, each at its own place.
+fn add_table(out: &mut [u32], rows: &[u32])
+    requires { (unreduced p rows.now ≡ false) × Elements 0 (entries rows.now) out.old }
+    ensures { Gained 0 (entries rows.now) (element_at rows.now) out.old out.new }
+{
+    // By number, as `Multiplier::gain`.
+    for i in 0..rows.len() / 4 {
+        let sum = table::get(out, i).add(table::read(rows, i));
+        table::put(out, i, sum);
     }
 }

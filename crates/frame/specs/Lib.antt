@@ -1,4 +1,5 @@
 pub mod Hex
 pub mod Frame
 pub mod Written
+pub mod Words
 pub mod Inner

@@ -6,21 +6,69 @@
 //     04
 #![tactic(auto)]
 
-ghost use Rattle.std.specs.Prelude.{◌≡◌, true, ◌∷◌, [], ◌+◌, ◌*◌, ◌≤◌, ◌<◌, length};
+ghost use Rattle.std.specs.Prelude.{◌≡◌, true, ◌∷◌, [], ◌++◌, ◌+◌, ◌*◌, ◌≤◌, ◌<◌, length};
 ghost use Rattle.std.proofs.lemmas.List.Edits.{sets};
 ghost use Rattle.frame.specs.Hex.{is_digit, digit_of, glyph, is_hex, spelled, word_at, words_at, byte_digits, word_digits};
 ghost use Rattle.frame.specs.Frame.{byte_at, element_of, frame_by, frame_of};
 ghost use Rattle.frame.specs.Inner.{Spells};
 
-use buffer::Buffer;
 use field::Element;
 use multilinear::{Side, Weight};
+use std::marker::Model;
 
 // The most words of an `03`.
 pub const MOST_WORDS: usize = 16;
 
-// The words of an `03`.
-pub type Words = Buffer<u32, MOST_WORDS>;
+// The words of an `03`, as a list of them. The room behind them is 0, so that the list gives it back.
+#[derive(Clone, Copy)]
+pub struct Words {
+    room: [u32; MOST_WORDS],
+    count: usize,
+}
+
+impl Model for Words {
+    ghost use Rattle.std.specs.Prelude.{ℕ, List};
+
+    ghost Value = { List ℕ };
+
+    ghost use Rattle.frame.specs.Words.{in_front, ZerosBehind, with_zeros, gives_back};
+
+    ghost view = { in_front };
+
+    ghost invariant = { ZerosBehind };
+
+    ghost inverse = { with_zeros };
+
+    ghost inverse_ok = { gives_back };
+}
+
+impl Words {
+    // None yet.
+    pub fn new() -> Self
+        ensures { result ≡ [] }
+    {
+        Words {
+            room: [0u32; MOST_WORDS],
+            count: 0,
+        }
+    }
+
+    pub fn as_slice(&self) -> &[u32]
+        ensures items { result.now ≡ self.now }
+        ensures few { length self.now ≤ 16 }
+    {
+        &self.room[..self.count]
+    }
+
+    // One more.
+    pub fn push(&mut self, word: u32)
+        requires { length self.old < 16 }
+        ensures { self.new ≡ self.old ++ word ∷ [] }
+    {
+        self.room[self.count] = word;
+        self.count += 1;
+    }
+}
 
 // The arguments of a session but for its coordinates.
 #[derive(Clone, Copy)]
@@ -33,7 +81,7 @@ pub struct Opening {
 }
 
 // What a line says.
-#[derive(Drop)]
+#[derive(Clone, Copy)]
 pub enum Frame {
     // `01`: a session opens.
     Open(Opening),
@@ -232,19 +280,19 @@ fn put_word(text: &mut [u8], at: usize, w: u32)
     ensures { text.new ≡ sets text.old at (word_digits (w ∷ [])) }
 {
     let [a, b, c, d] = w.to_be_bytes();
-    put_byte(text, at, a);
-    put_byte(text, at + 2, b);
-    put_byte(text, at + 4, c);
-    put_byte(text, at + 6, d);
+    put_byte(text, at, a as u32);
+    put_byte(text, at + 2, b as u32);
+    put_byte(text, at + 4, c as u32);
+    put_byte(text, at + 6, d as u32);
 }
 
 // The two digits of a byte, at `at`.
-pub fn put_byte(text: &mut [u8], at: usize, x: u8)
+pub fn put_byte(text: &mut [u8], at: usize, x: u32)
     requires { at + 2 ≤ length text.old }
     ensures { text.new ≡ sets text.old at (byte_digits x) }
 {
-    text[at] = glyph(x / 16 % 16);
-    text[at + 1] = glyph(x % 16);
+    text[at] = glyph((x / 16 % 16) as u8);
+    text[at + 1] = glyph((x % 16) as u8);
 }
 
 // The digit of a value.

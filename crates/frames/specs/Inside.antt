@@ -10,6 +10,7 @@ use Rattle.runs.specs.Reader.{gained, last_by, Ready, LastReady}
 use Rattle.runs.specs.Inner.{marked_as}
 use Rattle.runs.specs.State.{State}
 use Rattle.frames.specs.declared.Run.TheInside.{Inside}
+use Rattle.frames.specs.Shown.{Shown}
 
 -- the most words that are gathered
 abbrev pub most_gathered : ℕ
@@ -29,7 +30,15 @@ with_gathered r gathered out last =
     }
 
 abbrev pub seen : Inside → State
-seen i = with_gathered i.reader i.gathered i.out i.last
+seen i = with_gathered i.reader i.gathered.items i.out i.last
+
+-- beside the parts that it is told by
+abbrev pub shown : Inside → Shown
+shown i = record { state = seen i; out = i.out; last = i.last; gathered = i.gathered }
+
+-- which give them back
+abbrev pub inside : Shown → Inside
+inside s = record { reader = s.state.reader; out = s.out; last = s.last; gathered = s.gathered }
 
 -- words may be gathered
 abbrev pub is_gathering : Phase → Bool
@@ -47,4 +56,4 @@ pub record Gathers (r : Reader) (gathered out last : List ℕ) : Type 0 where
   pub none : is_gathering r.phase ≡ false → gathered ≡ []
 
 abbrev pub Gathering : Inside → Type 0
-Gathering i = Gathers i.reader i.gathered i.out i.last
+Gathering i = Gathers i.reader i.gathered.items i.out i.last

@@ -1,3 +1,4 @@
 pub mod After
+pub mod Shown
 pub mod Inside
 pub mod Inner

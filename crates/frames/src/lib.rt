@@ -45,7 +45,7 @@ type Gathered = Buffer<u32, MOST_GATHERED>;
 
 // What the lines so far left: the reader, which has counted all words; the sums and the last word of each place, of all words but the last
 // ones; and these, which are gathered.
-#[derive(Drop)]
+#[derive(Clone, Copy)]
 pub struct Run {
     reader: Reader,
     out: [u32; OUT_WORDS],
@@ -54,21 +54,23 @@ pub struct Run {
 }
 
 impl Model for Run {
-    ghost use Rattle.runs.specs.State.{State};
+    ghost use Rattle.frames.specs.Shown.{Shown};
 
-    ghost Value = { State };
+    ghost Value = { Shown };
 
-    ghost use Rattle.frames.specs.Inside.{seen, Gathering};
+    ghost use Rattle.frames.specs.Inside.{shown, Gathering, inside};
 
-    ghost view = { seen };
+    ghost view = { shown };
 
     ghost invariant = { Gathering };
+
+    ghost inverse = { inside };
 }
 
 impl Run {
     // Before the first line.
     pub fn new() -> Self
-        ensures { result ≡ start (replicate (4 * 2 ^ most_places) 0) (replicate (2 ^ most_places) 0) }
+        ensures { result.state ≡ start (replicate (4 * 2 ^ most_places) 0) (replicate (2 ^ most_places) 0) }
     {
         Run {
             reader: started(),
@@ -80,9 +82,9 @@ impl Run {
 
     // One line's frame, or none. A refused one leaves all as it was.
     pub fn step(&mut self, frame: Option<Frame>) -> Result<(), Refusal>
-        ensures result_value { answer result ≡ line_answer self.old.reader frame }
-        ensures state { self.new ≡ after_frame frame self.old }
-        ensures ready { Ready self.new.reader self.new.out }
+        ensures result_value { answer result ≡ line_answer self.old.state.reader frame }
+        ensures state { self.new.state ≡ after_frame frame self.old.state }
+        ensures ready { Ready self.new.state.reader self.new.state.out }
     {
         let frame = test_place(self.reader.phase, frame)?;
         test_frame(&self.reader, &frame)?;
@@ -92,24 +94,24 @@ impl Run {
 
     // Its phase and its counts are those of all words, gathered or not.
     pub fn reader(&self) -> &Reader
-        ensures { result.now ≡ self.now.reader }
+        ensures { result.now ≡ self.now.state.reader }
     {
         &self.reader
     }
 
     // The sums, after `04`.
     pub fn sums(&self) -> &[u32]
-        requires { is_done self.now.reader.phase ≡ true }
-        ensures { result.now ≡ self.now.out }
+        requires { is_done self.now.state.reader.phase ≡ true }
+        ensures { result.now ≡ self.now.state.out }
     {
         &self.out
     }
 
     // What an accepted line does.
     fn take(&mut self, frame: Frame)
-        requires { line_answer self.old.reader (Some frame) ≡ 0 }
-        ensures state { self.new ≡ after_accepted frame self.old }
-        ensures ready { Ready self.new.reader self.new.out }
+        requires { line_answer self.old.state.reader (Some frame) ≡ 0 }
+        ensures state { self.new.state ≡ after_accepted frame self.old.state }
+        ensures ready { Ready self.new.state.reader self.new.state.out }
     {
         match frame {
             Frame::Open(opening) => {
@@ -126,10 +128,10 @@ impl Run {
 
     // At `03`: the words are gathered behind those that are there.
     fn gather(&mut self, words: &[u32])
-        requires accepted { line_answer self.old.reader (Some (Words words.now)) ≡ 0 }
+        requires accepted { line_answer self.old.state.reader (Some (Words words.now)) ≡ 0 }
         requires few { length words.now ≤ most_gathered }
-        ensures state { self.new ≡ after_accepted (Words words.now) self.old }
-        ensures ready { Ready self.new.reader self.new.out }
+        ensures state { self.new.state ≡ after_accepted (Words words.now) self.old.state }
+        ensures ready { Ready self.new.state.reader self.new.state.out }
     {
         make_room(
             &self.reader,
@@ -145,9 +147,9 @@ impl Run {
 
     // At `04`: all words are added, and then the missing ones.
     fn close(&mut self)
-        requires { line_answer self.old.reader (Some Close) ≡ 0 }
-        ensures state { self.new ≡ after_accepted Close self.old }
-        ensures ready { Ready self.new.reader self.new.out }
+        requires { line_answer self.old.state.reader (Some Close) ≡ 0 }
+        ensures state { self.new.state ≡ after_accepted Close self.old.state }
+        ensures ready { Ready self.new.state.reader self.new.state.out }
     {
         add_gathered(
             &self.reader,
@@ -168,12 +170,12 @@ fn make_room(
     out: &mut [u32],
     last: &mut [u32],
 )
-    requires gathers { Gathers reader.now gathered.old out.old last.old }
+    requires gathers { Gathers reader.now gathered.old.items out.old last.old }
     requires few { more ≤ most_gathered }
-    ensures same { with_gathered reader.now gathered.new out.new last.new
-        ≡ with_gathered reader.now gathered.old out.old last.old }
-    ensures gathers { Gathers reader.now gathered.new out.new last.new }
-    ensures room { length gathered.new + more ≤ most_gathered }
+    ensures same { with_gathered reader.now gathered.new.items out.new last.new
+        ≡ with_gathered reader.now gathered.old.items out.old last.old }
+    ensures gathers { Gathers reader.now gathered.new.items out.new last.new }
+    ensures room { length gathered.new.items + more ≤ most_gathered }
 {
     if MOST_GATHERED - gathered.as_slice().len() < more {
         add_gathered(reader, gathered, out, last);
@@ -183,11 +185,11 @@ fn make_room(
 // The gathered words go to their places, and the last one of each is kept; beneath the session's tests, since out and the record are the
 // program's own.
 fn add_gathered(reader: &Reader, gathered: &mut Gathered, out: &mut [u32], last: &mut [u32])
-    requires { Gathers reader.now gathered.old out.old last.old }
-    ensures same { with_gathered reader.now gathered.new out.new last.new
-        ≡ with_gathered reader.now gathered.old out.old last.old }
-    ensures gathers { Gathers reader.now gathered.new out.new last.new }
-    ensures none { gathered.new ≡ [] }
+    requires { Gathers reader.now gathered.old.items out.old last.old }
+    ensures same { with_gathered reader.now gathered.new.items out.new last.new
+        ≡ with_gathered reader.now gathered.old.items out.old last.old }
+    ensures gathers { Gathers reader.now gathered.new.items out.new last.new }
+    ensures none { gathered.new.items ≡ [] }
 {
     let words = gathered.as_slice();
     let plan = &reader.session.plan;

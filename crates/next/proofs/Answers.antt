@@ -1,5 +1,7 @@
 -- Number and words of the answer of `eval_next`: those of its elements, and they determine it. Assumes nothing.
-use mathlib.Core.Path.{◌≡◌, refl, sym, ap, ap₂, ◌∙◌}
+use mathlib.Core.Path.{◌≡◌, refl, sym, ap, ap₂}
+use mathlib.Core.HLevel.{is_prop→PathP}
+use native.Mathlib.Nat.{ℕ_set}
 use native.Mathlib.Omega.{arith}
 use mathlib.Core.List.{List, [], ◌∷◌, ◌++◌}
 use Prim.Native.Nat.{ℕ}
@@ -13,7 +15,8 @@ use Rattle.table.specs.declared.Refusal.{Refusal}
 use Rattle.table.proofs.Answers.{number_one, number_some}
 use Rattle.table.proofs.Outcomes.{refused_given, accepted_given}
 use Rattle.field.specs.declared.Element.{Element}
-use Rattle.next.specs.declared.Parts.{Parts}
+use Rattle.next.specs.declared.parts.Parts.{Parts}
+use Rattle.next.specs.Whole.{FourWords}
 use Rattle.next.specs.Inner.{HoldParts}
 use Rattle.next.specs.Next.{next_outcome, part_words}
 
@@ -25,11 +28,6 @@ unfolding to_words
 accepted_next n h x e d = rw (d.carry_is.words, d.done_is.words, d.omega_is.words) (accepted_given n h (part_words x))
 
 pub ruleset next_outcomes = (refused_next, accepted_next)
-
--- each element has its four words
-abbrev pub FourWords : Result Parts Refusal → Type 0
-FourWords (Ok x) = (length x.carry.c ≡ 4) × (length x.done.c ≡ 4) × (length x.omega.c ≡ 4)
-FourWords (Err r) = Unit
 
 -- lists of one length in front of others
 fronts : (xs ys us vs : List ℕ) → length xs ≡ length ys → xs ++ us ≡ ys ++ vs → (xs ≡ ys) × (us ≡ vs)
@@ -44,22 +42,29 @@ fronts (x ∷ xs) (y ∷ ys) us vs h e =
 abbrev one_of : List ℕ → Element
 one_of ws = record { c = ws }
 
-three : (x y : Parts) → FourWords (Ok x) → FourWords (Ok y) → x.carry.c ++ x.done.c ++ x.omega.c ≡ y.carry.c ++ y.done.c ++ y.omega.c
-    → x ≡ y
-three x y h k e =
-    let l : length (x.carry.c ++ x.done.c) ≡ length (y.carry.c ++ y.done.c) = rw (length-append, length-append, h.0, h.1, k.0, k.1) in
-    let a = fronts (x.carry.c ++ x.done.c) (y.carry.c ++ y.done.c) x.omega.c y.omega.c l e in
-    let b = fronts x.carry.c y.carry.c x.done.c y.done.c (h.0 ∙ sym k.0) a.0 in
-    let ec : x.carry ≡ y.carry = ap one_of b.0 in
-    let ed : x.done ≡ y.done = ap one_of b.1 in
-    let eo : x.omega ≡ y.omega = ap one_of a.1 in
-    ap₂ (λ (d : Element) (o : Element). let p : Parts = record { carry = x.carry; done = d; omega = o } in p) ed eo
-    ∙ ap (λ (c : Element). let p : Parts = record { carry = c; done = y.done; omega = y.omega } in p) ec
+-- a `Parts` is its three elements: that they have four words has one proof
+parts_one : (x y : Parts) → x.carry ≡ y.carry → x.done ≡ y.done → x.omega ≡ y.omega → x ≡ y
+parts_one x y c d o =
+    λ i. record {
+      carry = c i;
+      done = d i;
+      omega = o i;
+      whole = is_prop→PathP (λ j. FourWords (c j) × FourWords (d j) × FourWords (o j)) (λ j. hlevel ℕ_set) x.whole y.whole i;
+    }
 
-pub next_one : (a b : Result Parts Refusal) → FourWords a → FourWords b → next_outcome a ≡ next_outcome b → a ≡ b
-next_one (Ok x) (Ok y) h k e =
+three : (x y : Parts) → x.carry.c ++ x.done.c ++ x.omega.c ≡ y.carry.c ++ y.done.c ++ y.omega.c → x ≡ y
+three x y e =
+    let one : length x.carry.c ≡ length y.carry.c = omega (arith, x.whole, y.whole) in
+    let two : length x.done.c ≡ length y.done.c = omega (arith, x.whole, y.whole) in
+    let l : length (x.carry.c ++ x.done.c) ≡ length (y.carry.c ++ y.done.c) = simp (length-append, one, two) in
+    let a = fronts (x.carry.c ++ x.done.c) (y.carry.c ++ y.done.c) x.omega.c y.omega.c l e in
+    let b = fronts x.carry.c y.carry.c x.done.c y.done.c one a.0 in
+    parts_one x y (ap one_of b.0) (ap one_of b.1) (ap one_of a.1)
+
+pub next_one : (a b : Result Parts Refusal) → next_outcome a ≡ next_outcome b → a ≡ b
+next_one (Ok x) (Ok y) e =
     let w : x.carry.c ++ x.done.c ++ x.omega.c ≡ y.carry.c ++ y.done.c ++ y.omega.c = ap (λ (o : Outcome). o.words) e in
-    ap Ok (three x y h k w)
-next_one (Ok x) (Err s) h k e = absurd (number_some s (ap (λ (o : Outcome). o.number) e))
-next_one (Err r) (Ok y) h k e = absurd (number_some r (sym (ap (λ (o : Outcome). o.number) e)))
-next_one (Err r) (Err s) h k e = ap Err (number_one r s (ap (λ (o : Outcome). o.number) e))
+    ap Ok (three x y w)
+next_one (Ok x) (Err s) e = absurd (number_some s (ap (λ (o : Outcome). o.number) e))
+next_one (Err r) (Ok y) e = absurd (number_some r (sym (ap (λ (o : Outcome). o.number) e)))
+next_one (Err r) (Err s) e = ap Err (number_one r s (ap (λ (o : Outcome). o.number) e))

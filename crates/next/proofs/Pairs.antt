@@ -10,9 +10,10 @@ use Rattle.multilinear.specs.Successors.{NextParts, eval_next, done_step, carry_
 use Rattle.multilinear.specs.Beside.{eval_eq}
 use Rattle.field.specs.Field.{Ext, field, from_words, Holds}
 use Rattle.field.specs.declared.Element.{Element}
-use Rattle.field.proofs.Laws.{field_ring, read_as}
+use Rattle.field.proofs.Laws.{field_ring, read_as, size}
 use Rattle.table.specs.Table.{element_at, elements}
-use Rattle.next.specs.declared.Parts.{Parts}
+use Rattle.next.specs.declared.parts.Parts.{Parts}
+use Rattle.next.specs.Whole.{FourWords}
 use Rattle.next.specs.Inner.{HoldParts}
 use Rattle.point.proofs.Rest.{rest, rest_none, rest_more, rest_all}
 
@@ -85,6 +86,10 @@ module _ (ps rs : List ℕ) (k j : ℕ) (h : 0 < j) {s t : Element}
         done_is = rw (p, r) (rw (read_as _ e₁, read_as _ e₂, read_as _ d.done_is, read_as _ d.carry_is) at e₃);
         omega_is = rw (p, r) (rw (read_as _ b, read_as _ e₁, read_as _ e₂, read_as _ d.omega_is) at e₅);
       }
+
+-- an element that is held has its four words
+pub four : {e : Element} {x : Ext} → Holds e x → FourWords e
+four {x = x} h = rw h.words (omega (arith, size x))
 
 module _ (ps rs : List ℕ) (k j : ℕ) (z : j ≡ 0) where
   pub agreed_finish : {product : Element} → Agreed ps rs k j product → Holds product (eval_eq field (elements ps 0 k) (elements rs 0 k))

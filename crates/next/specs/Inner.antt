@@ -2,7 +2,7 @@
 use Rattle.multilinear.specs.Successors.{NextParts}
 use Rattle.field.specs.Field.{Ext, field, from_words, Reduced, Holds}
 use Rattle.field.specs.declared.Element.{Element}
-use Rattle.next.specs.declared.Parts.{Parts}
+use Rattle.next.specs.declared.parts.Parts.{Parts}
 
 -- two coordinates, and their product
 pub record Paired (s t both : Element) : Type 0 where

@@ -1,2 +1,3 @@
+pub mod Whole
 pub mod Next
 pub mod Inner

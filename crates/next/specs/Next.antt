@@ -7,7 +7,7 @@ use Rattle.field.specs.Field.{p, Ext, field}
 use Rattle.table.specs.Table.{entries, point_of}
 use Rattle.table.specs.Refusals.{number, Outcome, alone, Test, ◌gives◌, verdict, given, evaluated, splits, too_many}
 use Rattle.table.specs.declared.Refusal.{Refusal}
-use Rattle.next.specs.declared.Parts.{Parts}
+use Rattle.next.specs.declared.parts.Parts.{Parts}
 
 -- `eval_eq`, `eval_next`: 1, 3, 4, 5
 abbrev pub pair_tests : List ℕ → List ℕ → List Test

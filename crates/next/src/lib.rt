@@ -2,8 +2,9 @@
 #![tactic(auto)]
 
 mod pair;
+mod parts;
 
-ghost use Rattle.std.specs.Prelude.{◌≡◌, ◌++◌};
+ghost use Rattle.std.specs.Prelude.{◌≡◌};
 ghost use Rattle.algebra.specs.Ring.{Ops, minus};
 ghost use Rattle.multilinear.specs.Equality.{agreement};
 ghost use Rattle.multilinear.specs.Successors.{eval_next, done_step};
@@ -16,39 +17,8 @@ ghost use Rattle.next.specs.Inner.{Paired, HoldParts};
 
 use field::Element;
 use pair::Pair;
-use std::fmt;
+pub use parts::Parts;
 use table::Refusal;
-
-// What the successor tables of a point give at a second one.
-#[derive(Clone, Copy)]
-pub struct Parts {
-    pub carry: Element,
-    pub done: Element,
-    pub omega: Element,
-}
-
-impl Parts {
-    // The words of carry, done and omega, one after another.
-    pub fn words(self) -> [u32; 12]
-        ensures { result ≡ self.carry.c ++ self.done.c ++ self.omega.c }
-    {
-        let carry = self.carry.c;
-        let done = self.done.c;
-        let omega = self.omega.c;
-        let mut words = [0u32; 12];
-        words.copy_from_slice([carry, done, omega].as_flattened());
-        words
-    }
-}
-
-impl fmt::Display for Parts {
-    fn fmt<W: fmt::Write>(&self, f: &mut fmt::Formatter<W>) -> fmt::Result {
-        let carry = self.carry;
-        let done = self.done;
-        let omega = self.omega;
-        write!(f, "{carry} {done} {omega}")
-    }
-}
 
 // The product of 2pq - p - q + 1 over the pairs of coordinates.
 #[tactic(auto, using(table::proofs::Outcomes::outcomes), unfolding(crate::specs::Next::eval_eq_answer))]
@@ -83,6 +53,7 @@ fn agreements(pair: Pair) -> Element
 
 // From the last pair, which goes with the lowest bit, back to coordinate 0. The product st of a pair serves every step: five products a
 // pair.
+#[tactic(auto, using(crate::proofs::Pairs::four))]
 fn next_parts(pair: Pair) -> Parts
     ensures { HoldParts result (eval_next field (coordinates pair.entry.point) (coordinates pair.entry.other)) }
 {

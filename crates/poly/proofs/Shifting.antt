@@ -1,47 +1,38 @@
--- The n elements of a table, each a place further: what `copy_within` leaves. Assumes nothing.
-use mathlib.Core.Path.{◌≡◌, refl, sym, ap, ◌∙◌}
-use Prim.Native.Nat.{ℕ, suc, ◌+◌, ◌-◌, ◌*◌, ◌≤◌, ◌<◌}
+-- The loop of `shift`: how it starts, steps and ends. Assumes nothing.
+use mathlib.Core.Path.{◌≡◌, refl, ◌∙◌}
+use Prim.Native.Nat.{ℕ, ◌+◌, ◌-◌, ◌≤◌, ◌<◌}
 use native.Mathlib.Omega.{arith}
 use mathlib.Core.List.{List}
-use lib.ListN.{length, get_or, take}
-use lib.Seq.{paste, length-paste, take-paste}
-use Rattle.std.proofs.lemmas.List.{length-take-le, get_or-take, get_or-append_right}
-use Rattle.std.specs.List.{copy_within}
-use Rattle.table.specs.Table.{get_at}
+use Rattle.std.proofs.Common.{add-one}
+use Rattle.field.specs.Field.{field, Holds}
+use Rattle.field.specs.declared.Element.{Element}
+use Rattle.table.specs.Table.{get_at, put_at, element_at, table_words}
+use Rattle.table.proofs.Laws.{get_put_other}
+use Rattle.table.proofs.Tests.{holds_at}
+use Rattle.table.proofs.Writing.{Written, start as written_none, turn as written_more, finish as written_all}
+use Rattle.poly.specs.Inner.{Weights, previous_at}
 
--- of the n elements of ws all but the last stand one place further in w
-pub record Shifted (n : ℕ) (ws w : List ℕ) : Type 0 where
-  pub len : length w ≡ length ws
-  pub moved : (y : ℕ) → suc y < n → get_at w (suc y) ≡ get_at ws y
+-- at the head of turn i: the elements before i are moved, those from i on are as they were, and `before` is the weight before i
+pub record Shifting (i : ℕ) (ws w : List ℕ) (before : Element) : Type 0 where
+  pub moved : Written (previous_at (element_at ws)) i ws w
+  pub kept : (y : ℕ) → i ≤ y → get_at w y ≡ get_at ws y
+  pub carried : Holds before (previous_at (element_at ws) i)
 
--- `count` words of ws stand four places further
-module _ (ws : List ℕ) (count : ℕ) (h : 4 + count ≤ length ws) where
-  front : length (take 4 ws) ≡ 4
-  front = length-take-le 4 ws (omega arith)
+pub start : (ws : List ℕ) {z : Element} → Holds z field.zero → Shifting 0 ws ws z
+start ws z = record { moved = written_none _ ws; kept = λ y h. refl; carried = z }
 
-  pasted : (i j : ℕ) → i < count → j ≡ 4 + i → get_or (paste ws 4 ws count) j 0 ≡ get_or ws i 0
-  pasted i j b q =
-      let r : j - 4 ≡ i = omega arith in
-      sym (get_or-take (4 + count) (paste ws 4 ws count) j 0 (omega arith))
-      ∙ ap (λ l. get_or l j 0) (take-paste ws 4 ws count (omega arith) (omega arith))
-      ∙ get_or-append_right (take 4 ws) (take count ws) 4 j 0 front (omega arith)
-      ∙ ap (λ m. get_or (take count ws) m 0) r
-      ∙ get_or-take count ws i 0 b
+module _ (n : ℕ) {ws : List ℕ} (t : Weights n ws) where
+  pub turn : (i : ℕ) (w : List ℕ) {before kept : Element} {w' : List ℕ} → Shifting i ws w before → i < n → kept ≡ get_at w i
+      → w' ≡ put_at w i before → Shifting (i + 1) ws w' kept
+  turn i w {before} s h a b =
+      record {
+        moved = written_more _ i ws w s.moved (omega (arith, t.count)) s.carried b;
+        kept = λ y l. rw b (get_put_other w i before y (λ q. omega arith) ∙ s.kept y (omega arith));
+        carried = rw add-one (holds_at ws t.below i (a ∙ s.kept i (omega arith)));
+      }
 
-pub shifted : (n : ℕ) (ws : List ℕ) → 0 < n → length ws ≡ 4 * n → {w : List ℕ}
-    → w ≡ copy_within ws 0 (4 * (n - 1)) 4 → Shifted n ws w
-unfolding get_at
-shifted n ws some count {w} e =
-    let fits : 4 + 4 * (n - 1) ≤ length ws = omega arith in
-    let q : 4 * (n - 1) - 0 ≡ 4 * (n - 1) = omega arith in
-    rw (e, q)
-    (record {
-      len = length-paste ws 4 ws (4 * (n - 1)) fits (omega arith);
-      moved = λ y h.
-          rw (
-            pasted ws (4 * (n - 1)) fits (4 * y) (4 * suc y) (omega arith) (omega arith),
-            pasted ws (4 * (n - 1)) fits (4 * y + 1) (4 * suc y + 1) (omega arith) (omega arith),
-            pasted ws (4 * (n - 1)) fits (4 * y + 2) (4 * suc y + 2) (omega arith) (omega arith),
-            pasted ws (4 * (n - 1)) fits (4 * y + 3) (4 * suc y + 3) (omega arith) (omega arith),
-          ) refl;
-    })
+  pub moved : {w : List ℕ} {before : Element} → Shifting n ws w before → w ≡ table_words n (previous_at (element_at ws))
+  moved s = written_all _ n s.moved t.count
+
+  pub last : {w : List ℕ} {before : Element} → Shifting n ws w before → Holds before (element_at ws (n - 1))
+  last s = let q : n ≡ (n - 1) + 1 = omega (arith, t.some) in rw add-one at (rw q at s.carried)

@@ -3,15 +3,15 @@
 
 pub mod value;
 
-ghost use Rattle.std.specs.Prelude.{◌≡◌, ◌*◌, ◌^◌, ◌<◌, length};
+ghost use Rattle.std.specs.Prelude.{◌≡◌, ◌-◌, ◌*◌, ◌^◌, ◌<◌, length};
 ghost use Rattle.multilinear.specs.Equality.{eq_at};
-ghost use Rattle.field.specs.Field.{field};
+ghost use Rattle.field.specs.Field.{field, Holds};
 ghost use Rattle.poly.specs.Poly.{new_answer, new_out, next_out, cyclic_out};
 ghost use Rattle.table.specs.Table.{table_words, element_at, entries};
 ghost use Rattle.table.specs.Refusals.{answer};
 ghost use Rattle.point.specs.Point.{table_answer};
 ghost use Rattle.point.specs.Points.{coordinates};
-ghost use Rattle.poly.specs.Inner.{Weights, successor_at};
+ghost use Rattle.poly.specs.Inner.{Weights, previous_at, successor_at};
 
 use field::Element;
 use point::Point;
@@ -82,10 +82,25 @@ fn succeed(out: &mut [u32], own: usize)
     ensures { out.new
         ≡ table_words (entries out.old) (successor_at own (entries out.old) (element_at out.old)) }
 {
-    let n = out.len() / 4;
-    let last = table::get(out, n - 1);
-    out.copy_within(0..4 * (n - 1), 4);
-    table::put(out, 0, Element::zero());
+    let last = shift(out);
     let kept = table::get(out, own);
     table::put(out, own, kept.add(last));
+}
+
+// Each weight of out becomes the one before it, and the first 0. The last one is given back. By a loop: `copy_within` would have
+// the archives for C ask for `memmove`.
+//
+//     [ w0, w1, .., w_{N-1} ]  ->  [ 0, w0, .., w_{N-2} ]  and  w_{N-1}
+fn shift(out: &mut [u32]) -> Element
+    requires { Weights (entries out.old) out.old }
+    ensures last { Holds result (element_at out.old (entries out.old - 1)) }
+    ensures moved { out.new ≡ table_words (entries out.old) (previous_at (element_at out.old)) }
+{
+    let mut before = Element::zero();
+    for i in 0..out.len() / 4 {
+        let kept = table::get(out, i);
+        table::put(out, i, before);
+        before = kept;
+    }
+    before
 }

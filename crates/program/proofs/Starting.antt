@@ -6,17 +6,16 @@ use mathlib.Core.List.{List, []}
 use mathlib.Core.Bool.{false}
 use Rattle.runs.specs.Reader.{started}
 use Rattle.runs.specs.State.{State}
-use Rattle.program.specs.Blocks.{start_state, begun}
-use Rattle.program.specs.declared.Program.TheInside.{Inside}
-use Rattle.program.specs.Inside.{seen, Going}
+use Rattle.program.specs.Blocks.{Fed, start_state, begun}
+use Rattle.program.specs.Inside.{Goes}
 
 module _ {run : State} {line text : List ℕ} (r : run ≡ start_state) (l : line ≡ []) (t : text ≡ []) where
-  abbrev first : Inside
-  first = record { run = run; line = line; stopped = false; text = text }
+  abbrev first : Fed
+  first = record { feeding = record { state = run; stopped = false; held = line }; text = text }
 
-  pub goes_first : Going first
+  pub goes_first : Goes first
   unfolding started
   goes_first = rw (r, l, t) (record { few = omega arith; room = omega arith })
 
-  pub seen_first : seen first ≡ record { feeding = begun; text = [] }
+  pub seen_first : first ≡ record { feeding = begun; text = [] }
   seen_first = rw (r, l, t) refl

@@ -25,9 +25,9 @@ pub fn find_line_feed(bytes: &[u8]) -> Option<usize>
 
 // After an accepted line: at `04` the out lines.
 pub fn put_out(run: &Run, text: &mut Buffer<u8, MOST_TEXT>)
-    requires ready { Ready run.now.reader run.now.out }
-    requires room { length text.old + length (done_text run.now.reader run.now.out) ≤ most_text }
-    ensures { text.new ≡ text.old ++ done_text run.now.reader run.now.out }
+    requires ready { Ready run.now.state.reader run.now.state.out }
+    requires room { length text.old.items + length (done_text run.now.state.reader run.now.state.out) ≤ most_text }
+    ensures { text.new.items ≡ text.old.items ++ done_text run.now.state.reader run.now.state.out }
 {
     let reader = run.reader();
     if !reader.phase.is_done() {
@@ -38,10 +38,10 @@ pub fn put_out(run: &Run, text: &mut Buffer<u8, MOST_TEXT>)
 }
 
 // The lines of elements.
-fn put_elements(out: &[u32], places: usize, text: &mut Buffer<u8, MOST_TEXT>)
+pub fn put_elements(out: &[u32], places: usize, text: &mut Buffer<u8, MOST_TEXT>)
     requires there { 4 * places ≤ length out.now }
-    requires room { length text.old + 33 * places ≤ most_text }
-    ensures { text.new ≡ text.old ++ out_lines places out.now }
+    requires room { length text.old.items + 33 * places ≤ most_text }
+    ensures { text.new.items ≡ text.old.items ++ out_lines places out.now }
 {
     for element in out[..4 * places].chunks_exact(4) {
         let mut line = [LINE_FEED; LINE_BYTES];
@@ -52,17 +52,10 @@ fn put_elements(out: &[u32], places: usize, text: &mut Buffer<u8, MOST_TEXT>)
 
 // The line of a refusal.
 pub fn put_refusal(refusal: Refusal, text: &mut Buffer<u8, MOST_TEXT>)
-    requires { length text.old + 5 ≤ most_text }
-    ensures { text.new ≡ text.old ++ refusal_line (number refusal) }
+    requires { length text.old.items + 5 ≤ most_text }
+    ensures { text.new.items ≡ text.old.items ++ refusal_line (number refusal) }
 {
     let mut line = *b"ff00\n";
-    frame::put_byte(&mut line, 2, byte_of(refusal));
+    frame::put_byte(&mut line, 2, refusal.number());
     text.extend(&line);
-}
-
-// Its number, which fits a byte.
-fn byte_of(refusal: Refusal) -> u8
-    ensures { result ≡ number refusal }
-{
-    refusal.number() as u8
 }

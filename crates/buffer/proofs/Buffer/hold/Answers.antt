@@ -1,5 +1,5 @@
 -- As many more as there is room for. Assumes nothing.
-use Rattle.std.proofs.Common.{◌≡◌, ℕ, ◌-◌, ◌≤◌, List, ◌++◌, length, take, min, arith, length-take-le}
+use Rattle.std.proofs.Common.{◌≡◌, ℕ, ◌-◌, ◌≤◌, List, ◌++◌, length, take, min, ap, arith, length-take-le}
 use Rattle.std.proofs.lemmas.List.{take_min}
 use Rattle.std.proofs.Math.Seq.{take-append-add}
 use Rattle.buffer.proofs.Buffer.hold.Goals as goal
@@ -11,4 +11,4 @@ held {n = n} {count} room ys {xs} v l h q e =
     grind (arith, length-take-le count room, take_min (n - count) ys, take-append-add xs ys (n - count))
 
 pub returns : goal.returns
-returns g c = held _ _ c.self.view_is c.self.told c.self.invariant c.min-count.ensures c.extend.ensures
+returns g c = held _ _ (ap (λ v. v.items) c.self.view_is) c.self.told c.self.invariant c.min-count.ensures c.extend.ensures

@@ -8,16 +8,16 @@ use Rattle.frames.proofs.Run.close.Goals as goal
 
 pub invariant_of-self : goal.invariant_of-self
 invariant_of-self c =
-    let a = accepted_in c.self.view_is Close c.requires in
+    let a = accepted_in (ap (λ v. v.state) c.self.view_is) Close c.requires in
     let g = c.add_gathered.ensures in
     rw c.add_missing.ensures (other_gathers Close g.gathers g.none a refl)
 
 pub returns-clause-state : goal.returns-clause-state
 returns-clause-state c =
-    let a = accepted_in c.self.view_is Close c.requires in
+    let a = accepted_in (ap (λ v. v.state) c.self.view_is) Close c.requires in
     let g = c.add_gathered.ensures in
     rw c.add_missing.ensures (other_same Close g.gathers g.none a refl)
-    ∙ ap (after_accepted Close) (g.same ∙ c.self.view_is)
+    ∙ ap (after_accepted Close) (g.same ∙ ap (λ v. v.state) c.self.view_is)
 
 pub returns-clause-ready : goal.returns-clause-ready
 returns-clause-ready c = ready_seen (invariant_of-self c)

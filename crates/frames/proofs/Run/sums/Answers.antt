@@ -16,5 +16,5 @@ done_gathers_none phase.Done e = refl
 
 pub returns : goal.returns
 returns c =
-    let none = c.self.invariant.none (done_gathers_none c.self.inside.reader.phase (ap (λ s. is_done s.reader.phase) c.self.view_is ∙ c.requires)) in
-    sym (ap (λ s. s.out) (settled c.self.inside.last c.self.invariant.ready none)) ∙ ap (λ s. s.out) c.self.view_is
+    let none = c.self.invariant.none (done_gathers_none c.self.inside.reader.phase (ap (λ s. is_done s.state.reader.phase) c.self.view_is ∙ c.requires)) in
+    sym (ap (λ s. s.out) (settled c.self.inside.last c.self.invariant.ready none)) ∙ ap (λ s. s.state.out) c.self.view_is

@@ -1,7 +1,7 @@
 -- By the case of the answer. Assumes nothing.
 use Rattle.std.proofs.Common.{refl, ◌++◌, rules}
 use Rattle.next.specs.Next.{next_outcome}
-use Rattle.next.specs.declared.Parts.{Parts}
+use Rattle.next.specs.declared.parts.Parts.{Parts}
 use Rattle.host_answers.proofs.Showing.{shown_as}
 use Rattle.host.proofs.answers.give_next.Goals as goal
 

@@ -8,7 +8,7 @@ use Rattle.program.proofs.Program.end_line.Goals as goal
 pub put_out-requires-clause-room : goal.put_out-requires-clause-room
 put_out-requires-clause-room c =
     let s = seen c.self.inside in
-    let on : c.self.inside.stopped ≡ false = ap (λ v. v.feeding.stopped) c.self.view_is ∙ c.requires in
+    let on : c.self.inside.stopped ≡ false = ap (λ v. v.fed.feeding.stopped) c.self.view_is ∙ c.requires in
     let t = c.in-Ok.ensures in
     let st = stepped s (Ok tt) c.decode-frame.ensures c.as_slice.ensures.items t.result_value t.state t.ready in
     out_fits c.self.invariant on st
@@ -16,7 +16,7 @@ put_out-requires-clause-room c =
 pub invariant_of-self : goal.invariant_of-self
 invariant_of-self c =
     let s = seen c.self.inside in
-    let on : c.self.inside.stopped ≡ false = ap (λ v. v.feeding.stopped) c.self.view_is ∙ c.requires in
+    let on : c.self.inside.stopped ≡ false = ap (λ v. v.fed.feeding.stopped) c.self.view_is ∙ c.requires in
     let t = c.in-Ok.ensures in
     let st = stepped s (Ok tt) c.decode-frame.ensures c.as_slice.ensures.items t.result_value t.state t.ready in
     rw (c.clear.ensures, on) (accepted_goes c.self.invariant on st c.put_out.ensures)
@@ -24,15 +24,15 @@ invariant_of-self c =
 pub returns-in-Ok : goal.returns-in-Ok
 returns-in-Ok c =
     let s = seen c.self.inside in
-    let on : c.self.inside.stopped ≡ false = ap (λ v. v.feeding.stopped) c.self.view_is ∙ c.requires in
+    let on : c.self.inside.stopped ≡ false = ap (λ v. v.fed.feeding.stopped) c.self.view_is ∙ c.requires in
     let t = c.in-Ok.ensures in
     let st = stepped s (Ok tt) c.decode-frame.ensures c.as_slice.ensures.items t.result_value t.state t.ready in
-    rw (c.clear.ensures, on) (line_accepted c.self.invariant on st c.put_out.ensures) ∙ ap ended c.self.view_is
+    rw (c.clear.ensures, on) (line_accepted c.self.invariant on st c.put_out.ensures) ∙ ap (λ v. ended v.fed) c.self.view_is
 
 pub returns-in-Err : goal.returns-in-Err
 returns-in-Err c =
     let s = seen c.self.inside in
-    let on : c.self.inside.stopped ≡ false = ap (λ v. v.feeding.stopped) c.self.view_is ∙ c.requires in
+    let on : c.self.inside.stopped ≡ false = ap (λ v. v.fed.feeding.stopped) c.self.view_is ∙ c.requires in
     let t = c.in-Err.ensures in
     let st = stepped s (Err c.in-Err.refusal) c.decode-frame.ensures c.as_slice.ensures.items t.result_value t.state t.ready in
-    rw c.clear.ensures (line_refused c.self.invariant on c.in-Err.refusal st c.put_refusal.ensures) ∙ ap ended c.self.view_is
+    rw c.clear.ensures (line_refused c.self.invariant on c.in-Err.refusal st c.put_refusal.ensures) ∙ ap (λ v. ended v.fed) c.self.view_is

@@ -4,4 +4,4 @@ use Rattle.program.proofs.text.put_elements.Given as goal
 
 abbrev pub invariant-loop-element : goal.invariant-loop-element
 invariant-loop-element l =
-    Left l.fn.text l.out l.places l.text l.element-iterator.rest.now l.element-iterator.size
+    Left l.fn.text.items l.out l.places l.text.items l.element-iterator.rest.now l.element-iterator.size
