@@ -1,3 +1,4 @@
+mod ZerosBehind
 pub mod Glyphs
 pub mod Grammar
 pub mod FirstByte

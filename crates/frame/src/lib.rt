@@ -6,7 +6,7 @@
 //     04
 #![tactic(auto)]
 
-ghost use Rattle.std.specs.Prelude.{◌≡◌, true, ◌∷◌, [], ◌++◌, ◌+◌, ◌*◌, ◌≤◌, ◌<◌, length};
+ghost use Rattle.std.specs.Prelude.{◌≡◌, true, ◌∷◌, [], ◌++◌, ◌+◌, ◌*◌, ◌≤◌, ◌<◌, length, take};
 ghost use Rattle.std.proofs.lemmas.List.Edits.{sets};
 ghost use Rattle.frame.specs.Hex.{is_digit, digit_of, glyph, is_hex, spelled, word_at, words_at, byte_digits, word_digits};
 ghost use Rattle.frame.specs.Frame.{byte_at, element_of, frame_by, frame_of};
@@ -60,6 +60,13 @@ impl Words {
         &self.room[..self.count]
     }
 
+    pub fn clear(&mut self)
+        ensures { self.new ≡ [] }
+    {
+        self.room = [0u32; MOST_WORDS];
+        self.count = 0;
+    }
+
     // One more.
     pub fn push(&mut self, word: u32)
         requires { length self.old < 16 }
@@ -67,6 +74,25 @@ impl Words {
     {
         self.room[self.count] = word;
         self.count += 1;
+    }
+
+    // More of them.
+    pub fn extend(&mut self, words: &[u32])
+        requires { length self.old + length words.now ≤ 16 }
+        ensures { self.new ≡ self.old ++ words.now }
+    {
+        let end = self.count + words.len();
+        let room = &mut self.room[..];
+        room[self.count..end].copy_from_slice(words);
+        self.count = end;
+    }
+
+    // As many of the words as there is room for.
+    pub fn hold(&mut self, words: &[u32])
+        ensures { self.new ≡ take 16 (self.old ++ words.now) }
+    {
+        let count = words.len().min(MOST_WORDS - self.count);
+        self.extend(&words[..count]);
     }
 }
 
@@ -302,3 +328,6 @@ fn glyph(d: u8) -> u8
 {
     if d < 10 { b'0' + d } else { b'a' - 10 + d }
 }
+
+#[cfg(test)]
+mod tests;

@@ -99,3 +99,6 @@ fn carry_step(s: Element, both: Element, carry: Element) -> Element
 {
     s.sub(both).mul(carry)
 }
+
+#[cfg(test)]
+mod tests;

@@ -16,6 +16,15 @@ pub struct Parts {
 }
 
 impl Parts {
+    // Of any three elements, wherever they are held: handed in by value, each has its four words, and there is nothing to show.
+    pub fn new(carry: Element, done: Element, omega: Element) -> Self
+        ensures carry { result.carry ≡ carry }
+        ensures done { result.done ≡ done }
+        ensures omega { result.omega ≡ omega }
+    {
+        Parts { carry, done, omega }
+    }
+
     // The words of carry, done and omega, one after another.
     pub fn words(self) -> [u32; 12]
         ensures { result ≡ self.carry.c ++ self.done.c ++ self.omega.c }

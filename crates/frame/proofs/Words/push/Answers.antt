@@ -1,13 +1,11 @@
 -- A word more takes the place of the first zero behind the words. Assumes nothing.
-use Rattle.std.proofs.Common.{◌≡◌, ℕ, ◌+◌, ◌-◌, ◌<◌, List, length, drop, set, replicate, refl, ap, arith, length-take-le}
-use Rattle.std.proofs.lemmas.List.{length-set, drop-set-lt, drop-replicate}
-use lib.Seq.{drop-drop}
+use Rattle.std.proofs.Common.{◌≡◌, ℕ, ◌+◌, ◌-◌, ◌<◌, List, length, drop, set, replicate, ap, arith, length-take-le}
+use Rattle.std.proofs.lemmas.List.{length-set, drop-set-lt}
+use Rattle.frame.proofs.ZerosBehind.{fewer}
 use Rattle.frame.proofs.Words.push.Goals as goal
 
 one_less : (room : List ℕ) (n w : ℕ) → n < 16 → drop n room ≡ replicate (16 - n) 0 → drop (n + 1) (set room n w) ≡ replicate (16 - (n + 1)) 0
-one_less room n w h e =
-    let q : 16 - n - 1 ≡ 16 - (n + 1) = omega arith in
-    rw (drop-set-lt (n + 1) room n w (omega arith), ← drop-drop 1 n room, e, drop-replicate {X = ℕ} 1 (16 - n) 0, q) refl
+one_less room n w h e = rw (drop-set-lt (n + 1) room n w (omega arith)) (fewer room n 1 (omega arith) e)
 
 pub invariant_of-self : goal.invariant_of-self
 invariant_of-self c =
