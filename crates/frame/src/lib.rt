@@ -60,6 +60,7 @@ impl Words {
         &self.room[..self.count]
     }
 
+    // None again, and zeros in the whole room.
     pub fn clear(&mut self)
         ensures { self.new ≡ [] }
     {

@@ -1,14 +1,7 @@
 -- As many more as there is room for. Assumes nothing.
-use Rattle.std.proofs.Common.{◌≡◌, ℕ, ◌-◌, ◌≤◌, List, ◌++◌, length, take, min, ap, arith, length-take-le}
-use Rattle.std.proofs.lemmas.List.{take_min}
-use Rattle.std.proofs.Math.Seq.{take-append-add}
+use Rattle.std.proofs.Common.{ap}
+use Rattle.buffer.proofs.Holding.{held}
 use Rattle.buffer.proofs.Buffer.hold.Goals as goal
-
--- behind the first `count` in a room of n
-held : {A : Type 0} {n count k : ℕ} (room ys : List A) {xs new : List A} → take count room ≡ xs → length room ≡ n → count ≤ n
-    → k ≡ min (length ys) (n - count) → new ≡ xs ++ take k ys → new ≡ take n (xs ++ ys)
-held {n = n} {count} room ys {xs} v l h q e =
-    grind (arith, length-take-le count room, take_min (n - count) ys, take-append-add xs ys (n - count))
 
 pub returns : goal.returns
 returns g c = held _ _ (ap (λ v. v.items) c.self.view_is) c.self.told c.self.invariant c.min-count.ensures c.extend.ensures

@@ -16,5 +16,5 @@ invariant_of-self c =
     let size : length c.copy_from_slice.new.self ≡ end - w.count = rw part (ap length c.copy_from_slice.ensures.after) in
     record {
       few = omega (arith, there, c.self.told, same_len_mid w.count (end - w.count) w.room _ c.copy_from_slice.ensures.len);
-      zeros = rw (drop-put_mid w.count (end - w.count) w.room _ end (omega arith) h.few size) (fewer w.room w.count k there h.zeros);
+      zeros = rw (drop-put_mid w.count (end - w.count) w.room _ end (omega arith) h.few size) (fewer 16 w.room w.count k h.zeros);
     }

@@ -5,7 +5,7 @@ use Rattle.frame.proofs.ZerosBehind.{fewer}
 use Rattle.frame.proofs.Words.push.Goals as goal
 
 one_less : (room : List ℕ) (n w : ℕ) → n < 16 → drop n room ≡ replicate (16 - n) 0 → drop (n + 1) (set room n w) ≡ replicate (16 - (n + 1)) 0
-one_less room n w h e = rw (drop-set-lt (n + 1) room n w (omega arith)) (fewer room n 1 (omega arith) e)
+one_less room n w h e = rw (drop-set-lt (n + 1) room n w (omega arith)) (fewer 16 room n 1 e)
 
 pub invariant_of-self : goal.invariant_of-self
 invariant_of-self c =
